@@ -50,11 +50,10 @@ Chain before (x ∷ xs) = All (λ y. before x y ≡ true) xs × Chain before xs
 module _ {T : Type 0} {before : T → T → Bool} {fields : T → List ℕ} (law : Order before fields) where
   pub chain-from-ascends : (xs : List T) → Ascends before xs → Chain before xs
   chain-from-ascends [] up = tt
-  chain-from-ascends (x ∷ xs) up =
-      (
-        all-from-getD _ xs x (λ i l. ascends-far law (x ∷ xs) up 0 (suc i) x (omega arith) (omega arith)),
-        chain-from-ascends xs (λ k d l. rw add-one (rw add-one at (up (suc k) d (omega arith)))),
-      )
+  chain-from-ascends (x ∷ xs) up = (
+    all-from-getD _ xs x (λ i l. ascends-far law (x ∷ xs) up 0 (suc i) x (omega arith) (omega arith)),
+    chain-from-ascends xs (λ k d l. rw add-one (rw add-one at (up (suc k) d (omega arith)))),
+  )
 
   pub ascends-from-chain : (xs : List T) → Chain before xs → Ascends before xs
   ascends-from-chain [] ch k d l = absurd (omega arith)
@@ -74,8 +73,8 @@ module _ {T : Type 0} {before : T → T → Bool} {fields : T → List ℕ} (law
       ⊎-elim
       (λ e. rw e ((all-filed _ one xs e (ch .0), chain-filed one xs (rw e at h) (ch .1))))
       (λ e.
-          let after : before one x ≡ true = not-false _ (rw e at h) in
-          rw e (((after, all-weaker _ _ (λ y b. law .trans _ _ _ after b) xs (ch .0)), ch)))
+      let after : before one x ≡ true = not-false _ (rw e at h) in
+      rw e (((after, all-weaker _ _ (λ y b. law .trans _ _ _ after b) xs (ch .0)), ch)))
       (cases-bool (before x one))
 
   pub ascends-filed : (one : T) (xs : List T) → holds before one xs ≡ false → Ascends before xs → Ascends before (filed before one xs)
@@ -113,17 +112,17 @@ module _ {T : Type 0} {before : T → T → Bool} {fields : T → List ℕ} (law
       let at-i : x ≡ getD xs i d = getD-read xs i x l read d in
       ⊎-elim
       (λ eq.
-          let first : getD (set xs i y) k d ≡ y = ap (λ j. getD (set xs i y) j d) eq ∙ getD-set-same xs i y d l in
-          let second : getD (set xs i y) (k + 1) d ≡ getD xs (k + 1) d = getD-set-other xs i (k + 1) y d (omega arith) in
-          rw (first, second) (same-before x y _ e (subst (λ z. before z (getD xs (k + 1) d) ≡ true) (ap (λ j. getD xs j d) eq ∙ sym at-i) here)))
+      let first : getD (set xs i y) k d ≡ y = ap (λ j. getD (set xs i y) j d) eq ∙ getD-set-same xs i y d l in
+      let second : getD (set xs i y) (k + 1) d ≡ getD xs (k + 1) d = getD-set-other xs i (k + 1) y d (omega arith) in
+      rw (first, second) (same-before x y _ e (subst (λ z. before z (getD xs (k + 1) d) ≡ true) (ap (λ j. getD xs j d) eq ∙ sym at-i) here)))
       (λ ne.
-          let first : getD (set xs i y) k d ≡ getD xs k d = getD-set-other xs i k y d ne in
-          ⊎-elim
-          (λ eq.
-              let second : getD (set xs i y) (k + 1) d ≡ y = ap (λ j. getD (set xs i y) j d) eq ∙ getD-set-same xs i y d l in
-              rw (first, second) (same-after x y _ e (subst (λ z. before (getD xs k d) z ≡ true) (ap (λ j. getD xs j d) eq ∙ sym at-i) here)))
-          (λ other. let second : getD (set xs i y) (k + 1) d ≡ getD xs (k + 1) d = getD-set-other xs i (k + 1) y d other in rw (first, second) here)
-          (cases-eq (k + 1) i))
+      let first : getD (set xs i y) k d ≡ getD xs k d = getD-set-other xs i k y d ne in
+      ⊎-elim
+      (λ eq.
+      let second : getD (set xs i y) (k + 1) d ≡ y = ap (λ j. getD (set xs i y) j d) eq ∙ getD-set-same xs i y d l in
+      rw (first, second) (same-after x y _ e (subst (λ z. before (getD xs k d) z ≡ true) (ap (λ j. getD xs j d) eq ∙ sym at-i) here)))
+      (λ other. let second : getD (set xs i y) (k + 1) d ≡ getD xs (k + 1) d = getD-set-other xs i (k + 1) y d other in rw (first, second) here)
+      (cases-eq (k + 1) i))
       (cases-eq k i)
 
   all-removed : (P : T → Type 0) (xs : List T) (i : ℕ) → All P xs → All P (removed xs i)
@@ -176,12 +175,12 @@ put-in xs at count one ys l m turned =
     let q = drop at (take count xs) in
     let shorter : length part - 1 ≡ count - at = omega arith in
     let rest : take (length part - 1) part ≡ q =
-        take-take (length part - 1) (count + 1 - at) (drop at xs) (omega arith) ∙ ap (λ k. take k (drop at xs)) shorter ∙ between-is xs at count in
+    take-take (length part - 1) (count + 1 - at) (drop at xs) (omega arith) ∙ ap (λ k. take k (drop at xs)) shorter ∙ between-is xs at count in
     let ys-is : ys ≡ last .0 ∷ q = turned ∙ ap (λ t. t ++ take (length part - 1) part) (last .1) ∙ ap (λ t. last .0 ∷ t) rest in
     let front : length (take at xs) ≡ at = length-take-le at xs (omega arith) in
     let post = drop (count + 1 - at) (drop at xs) in
     let written : set (putMid at (count + 1 - at) xs ys) at one ≡ take at xs ++ (one ∷ (q ++ post)) =
-        ap (λ t. set (take at xs ++ (t ++ post)) at one) ys-is ∙ set-at (take at xs) (last .0) (q ++ post) one at front in
+    ap (λ t. set (take at xs ++ (t ++ post)) at one) ys-is ∙ set-at (take at xs) (last .0) (q ++ post) one at front in
     let q-long : length q ≡ count - at = length-drop at (take count xs) ∙ ap (λ k. k - at) (length-take-le count xs (omega arith)) in
     let whole : length (take at xs ++ (one ∷ q)) ≡ count + 1 = length-append (take at xs) (one ∷ q) ∙ omega arith in
     ap (take (count + 1)) (written ∙ sym (append-assoc (take at xs) (one ∷ q) post)) ∙ take-at (take at xs ++ (one ∷ q)) post (count + 1) whole
@@ -201,5 +200,5 @@ take-out xs at count ys l m turned =
     let tail-long : length tail ≡ count - suc at = length-drop (suc at) (take count xs) ∙ ap (λ k. k - suc at) (length-take-le count xs m) in
     let whole : length (take at xs ++ tail) ≡ count - 1 = length-append (take at xs) tail ∙ omega arith in
     let grouped : putMid at (count - at) xs ys ≡ (take at xs ++ tail) ++ (take 1 part ++ post) =
-        ap (λ t. take at xs ++ (t ++ post)) ys-is ∙ ap (λ t. take at xs ++ t) (append-assoc tail (take 1 part) post) ∙ sym (append-assoc (take at xs) tail (take 1 part ++ post)) in
+    ap (λ t. take at xs ++ (t ++ post)) ys-is ∙ ap (λ t. take at xs ++ t) (append-assoc tail (take 1 part) post) ∙ sym (append-assoc (take at xs) tail (take 1 part ++ post)) in
     ap (take (count - 1)) grouped ∙ take-at (take at xs ++ tail) (take 1 part ++ post) (count - 1) whole ∙ ap (λ t. t ++ tail) (sym (take-take at count xs (omega arith)))

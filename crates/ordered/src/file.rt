@@ -14,13 +14,14 @@ use crate::rank::Void;
 use std::cmp::Ordering;
 
 // Records of one ranking in memory that is lent for as long as the file stands.
+#[derive(Drop)]
 pub struct OrderedFile<'a, T> {
     memory: &'a mut [T],
     count: usize,
 }
 
 // Why a record is not filed.
-#[derive(Clone, Copy, PartialEq, Debug)]
+#[derive(Clone, Copy)]
 pub enum InsertFault {
     // A record of its rank is there already.
     Present,

@@ -1,3 +1,8 @@
 // The ordered file: records of any kind that has a ranking, in strictly ascending order, in memory that its user lends.
-pub mod rank;
-pub mod file;
+mod file;
+mod rank;
+
+pub use file::InsertFault;
+pub use file::OrderedFile;
+pub use rank::Rank;
+pub use rank::Void;

@@ -14,24 +14,22 @@ pub loop-low-holds : need.loop-low-holds
 loop-low-holds g c = (omega arith, omega arith, λ up. record { below = λ k d l. absurd (omega arith); above = λ k d l n. absurd (omega arith) })
 
 pub loop-low-again : need.loop-low-again
-loop-low-again g c =
-    (
-      omega arith,
-      omega arith,
-      λ up.
-          between-down (law g) (c .args .key .now) (c .args .records .now) up (c .loop-low .low) (c .loop-low .high) _ (c .index-records-middle .result) (omega arith) (c .index-records-middle .is)
-          (not-before (law g) (c .args .key .now) (c .args .records .now) up _ _ (c .rank .ensures) (c .in-rest .not-Less)) (c .loop-low .inv .2 up),
-    )
+loop-low-again g c = (
+  omega arith,
+  omega arith,
+  λ up.
+      between-down (law g) (c .args .key .now) (c .args .records .now) up (c .loop-low .low) (c .loop-low .high) _ (c .index-records-middle .result) (omega arith) (c .index-records-middle .is)
+      (not-before (law g) (c .args .key .now) (c .args .records .now) up _ _ (c .rank .ensures) (c .in-rest .not-Less)) (c .loop-low .inv .2 up),
+)
 
 pub loop-low-again-in-Less : need.loop-low-again-in-Less
-loop-low-again-in-Less g c =
-    (
-      omega arith,
-      omega arith,
-      λ up.
-          between-up (law g) (c .args .key .now) (c .args .records .now) up (c .loop-low .low) (c .loop-low .high) _ (c .index-records-middle .result) (omega arith) (c .index-records-middle .is)
-          (c .in-Less .ensures tt) (c .loop-low .inv .2 up),
-    )
+loop-low-again-in-Less g c = (
+  omega arith,
+  omega arith,
+  λ up.
+      between-up (law g) (c .args .key .now) (c .args .records .now) up (c .loop-low .low) (c .loop-low .high) _ (c .index-records-middle .result) (omega arith) (c .index-records-middle .is)
+      (c .in-Less .ensures tt) (c .loop-low .inv .2 up),
+)
 
 pub returns : need.returns
 returns g c = record {

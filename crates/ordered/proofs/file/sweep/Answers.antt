@@ -14,13 +14,13 @@ loop-i-again g c =
     let inv = c .loop-i .inv in
     let item = c .index-memory-i .result in
     elim (c .if-not-is-void .came) [
-      then-not-is-void w ↦ rw (w .memory-is, w .to-is) (
+      | then-not-is-void w ↦ rw (w .memory-is, w .to-is) (
         keeping-more-set (inv .0) (omega arith) (not-from-false _ (sym (c .is-void .ensures) ∙ w .if-not-is-void .taken)) (c .index-memory-i .is),
         λ e.
             let here : c .loop-i .to ≡ c .loop-i .i = omega arith in
             ap (λ k. set (c .loop-i .memory) k item) here ∙ ap (set (c .loop-i .memory) (c .loop-i .i)) (c .index-memory-i .is) ∙ set-getD (c .loop-i .memory) (c .loop-i .i) item ∙ inv .1 here,
       )
-    | else-not-is-void w ↦ rw (w .memory-is, w .to-is) (
+      | else-not-is-void w ↦ rw (w .memory-is, w .to-is) (
         keeping-more-no (inv .0) (omega arith) (not-from-true _ (sym (c .is-void .ensures) ∙ w .if-not-is-void .left)) (c .index-memory-i .is),
         λ e. absurd (omega (arith, inv .0 .behind)),
       )

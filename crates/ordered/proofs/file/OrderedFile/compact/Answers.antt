@@ -28,7 +28,7 @@ returns g c =
       ascends = λ up. (omega (arith, swept .bound, c .min-n .ensures), subst (Ascends (g .T·Rank .before)) (sym left) (ascends-kept-by (law g) _ (inUse file) up));
       same = λ s all.
           let whole : r ≡ c .min-n .result =
-              sym (length-take-le r (c .sweep-self .last .memory) (omega (arith, swept .bound, c .min-n .ensures))) ∙ ap length (left ∙ all) ∙ length-take (file .count) memory ∙ omega (arith, c .min-n .ensures) in
+          sym (length-take-le r (c .sweep-self .last .memory) (omega (arith, swept .bound, c .min-n .ensures))) ∙ ap length (left ∙ all) ∙ length-take (file .count) memory ∙ omega (arith, c .min-n .ensures) in
           let count-is : r ≡ file .count = omega (arith, c .min-n .ensures) in
           ap (λ m. record { memory = setVals m (file .memory); count = r }) (swept .same whole) ∙ ap (λ n. record { memory = file .memory; count = n }) count-is;
       memory = long;

@@ -17,7 +17,7 @@ returns g c =
     let xs = inUse (c .args .self .now) in
     let seen = c .used .ensures .value in
     let answer = λ (up : Ascends before xs).
-        c .locate .ensures .value (subst (Ascends before) (sym seen) up) ∙ ap (located before (c .args .key .now)) seen in
+    c .locate .ensures .value (subst (Ascends before) (sym seen) up) ∙ ap (located before (c .args .key .now)) seen in
     record {
       value = answer;
       cases = λ up. told-by-place (law g) (c .args .key .now) xs up (c .locate .result) (answer up);

@@ -1,0 +1,66 @@
+// The calls on a directory: open, enter and find.
+ghost use Prim.Native.Nat.{ℕ};
+ghost use mathlib.Core.Path.{_≡_};
+ghost use mathlib.Core.Bool.{true};
+ghost use mathlib.Core.List.{List, [], _∷_};
+ghost use lib.ListN.{length};
+ghost use Rattle.std.specs.Results.{isErr};
+ghost use Rattle.ordered.specs.Files.{told, left};
+ghost use Rattle.directory.specs.Entries.{Listed, entries, places, entering, finding};
+ghost use Rattle.directory.specs.Promise.{Goes-on, Found-as-accepted};
+use crate::Directory;
+use crate::code::ByCode;
+use crate::code::Code;
+use crate::code::Entry;
+use crate::fault::Fault;
+use crate::fault::FaultFromInsert;
+use ordered::InsertFault;
+use ordered::OrderedFile;
+
+impl<'a> Directory<'a> {
+    // An empty directory with as many entries as the memory holds.
+    pub fn open(memory: &'a mut [Entry]) -> Self
+        ensures empty { λ r. ⌜ entries r ≡ [] ⌝ }
+        ensures room { λ r. ⌜ places r ≡ length (now (memory .entry)) ⌝ }
+    {
+        let file = OrderedFile::open(memory);
+        Directory { file }
+    }
+
+    // Enters a code with its number. Refused: 1 another form, 2 there already, 3 all entries in use.
+    pub fn enter(&mut self, code: &[u8], number: u32) -> Result<(), Fault>
+        ensures answers { λ r. ⌜ r ≡ told (entering (places (now (self .entry))) (entries (now (self .entry))) (now (code .entry)) number) ⌝ }
+        ensures items { λ _. ⌜ entries (now (self .exit)) ≡ left (entries (now (self .entry))) (entering (places (now (self .entry))) (entries (now (self .entry))) (now (code .entry)) number) ⌝ }
+        ensures room { λ _. ⌜ places (now (self .exit)) ≡ places (now (self .entry)) ⌝ }
+        ensures same { λ r. ⌜ (isErr r ≡ true → now (self .exit) .file ≡ now (self .entry) .file) ⌝ }
+        ensures attempts { λ _. ⌜ Goes-on (now (self .entry)) (now (self .exit)) (now (code .entry)) number ⌝ }
+    {
+        let Some(code) = Code::new(code) else {
+            return Err(Fault::Form);
+        };
+        self.file.insert(Entry { code, number })?;
+        Ok(())
+    }
+
+    // The number of a code. Refused: 1 another form, 4 no entry has it. After any sequence of entries, every code that was
+    // accepted is found with its number and no other code is.
+    pub fn find(&self, code: &[u8]) -> Result<u32, Fault>
+        ensures value { λ r. ⌜ r ≡ finding (entries (now (self .entry))) (now (code .entry)) ⌝ }
+        ensures accepted { λ r. ⌜ Found-as-accepted (now (self .entry)) (now (code .entry)) r ⌝ }
+    {
+        let Some(code) = Code::new(code) else {
+            return Err(Fault::Form);
+        };
+        match self.file.find(&Entry { code, number: 0 }) {
+            Ok(at) => Ok(self.file.used()[at].number),
+            Err(_) => Err(Fault::Missing),
+        }
+    }
+
+    // How many entries are in use.
+    pub fn len(&self) -> usize
+        ensures { λ r. ⌜ r ≡ length (entries (now (self .entry))) ⌝ }
+    {
+        self.file.used().len()
+    }
+}
