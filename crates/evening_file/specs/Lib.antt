@@ -1,0 +1,6 @@
+pub mod Faults
+pub mod Letters
+pub mod Lines
+pub mod Numbers
+pub mod Said
+pub mod Words
