@@ -1,0 +1,3 @@
+pub mod Feeding
+pub mod Clipping
+pub mod Cutting
