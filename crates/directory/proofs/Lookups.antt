@@ -18,7 +18,7 @@ use Rattle.ordered.specs.Files.{inUse, room, Ascends, place, holds, located, To
 use Rattle.ordered.specs.declared.file.OrderedFile.{OrderedFile}
 use Rattle.ordered.specs.declared.file.InsertFault.{InsertFault}
 use Rattle.ordered.specs.declared.file.InsertFault.the-variants as ordered
-use Rattle.ordered.proofs.Order.{Order, false-from-not, ascends-far}
+use Rattle.ordered.proofs.Order.{false-from-not, ascends-far}
 use Rattle.ordered.proofs.Places.{told-by-place}
 use Rattle.directory.specs.declared.code.Entry.{Entry}
 use Rattle.directory.specs.declared.fault.Fault.{Fault}
@@ -26,10 +26,7 @@ use Rattle.directory.specs.declared.fault.Fault.the-variants.{Form, Present, F
 use Rattle.directory.specs.Codes.{wellFormed, precedes, textOf, earlier}
 use Rattle.directory.specs.Faults.{asFault}
 use Rattle.directory.specs.Entries.{Listed, listed, same, numberIn, with, entering, finding}
-use Rattle.directory.proofs.Ranks.{precedes-self, precedes-trans, codes-one}
-
-pub by-code : Order earlier textOf
-by-code = record { one = λ x y. codes-one (textOf x) (textOf y); trans = λ x y z. precedes-trans (textOf x) (textOf y) (textOf z) }
+use Rattle.directory.proofs.Ranks.{precedes-self, by-code}
 
 pub same-self : (xs : List ℕ) → same xs xs ≡ true
 same-self [] = refl

@@ -13,8 +13,8 @@ use Rattle.std.specs.declared.cmp.Ordering.the-variants.{Less, Equal, Greater}
 use Rattle.std.proofs.shelf.Orders.{by-ranked}
 use Rattle.std.proofs.shelf.Tests.{false≢true, both-ways, cases-order, cond-true, cond-false, eq-eqb, ne-eqb, lt-ltb}
 use Rattle.std.proofs.shelf.Ways.{tells}
-use Rattle.ordered.specs.Ranking.{ExactlyOne}
-use Rattle.directory.specs.Codes.{precedes}
+use Rattle.ordered.specs.Ranking.{ExactlyOne, Lawful}
+use Rattle.directory.specs.Codes.{precedes, textOf, earlier}
 
 pub precedes-self : (xs : List ℕ) → precedes xs xs ≡ false
 precedes-self [] = refl
@@ -59,6 +59,10 @@ codes-one xs ys =
 
     both : precedes xs ys ≡ true → precedes ys xs ≡ true → ⊥
     both p q = both-ways _ (precedes-self xs) (precedes-trans xs ys xs p q)
+
+-- entries rank lawfully by their codes
+pub by-code : Lawful earlier textOf
+by-code = record { one = λ x y. codes-one (textOf x) (textOf y); trans = λ x y z. precedes-trans (textOf x) (textOf y) (textOf z) }
 
 -- what `cmp` answers of two codes' bytes
 pub codes-ranked : (xs ys : List ℕ) (o : Ordering) → Lex (λ a b k. Ranked k (a < b) (a ≡ b) (b < a)) xs ys o → Ranked o (precedes xs ys ≡ true) (xs ≡ ys) (precedes ys xs ≡ true)

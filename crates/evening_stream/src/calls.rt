@@ -41,8 +41,8 @@ impl Stream {
     {
         let mut taken = 0;
         while let Some(n) = line_len(&block[taken..]) {
-            if self.end_line(desk, heap, &block[taken..taken + n], out)
-                .is_err() {
+            let line = &block[taken..taken + n];
+            if self.end_line(desk, heap, line, out).is_err() {
                 return Err(Stop::Memory { taken });
             }
             taken += n;

@@ -15,8 +15,9 @@ use Rattle.std.proofs.shelf.Elements.{all-getD, all-from-getD, all-kept-by, all
 use Rattle.std.proofs.shelf.Tests.{both-ways, cases-bool, cases-lt, cases-eq, cases-order, cond-true, cond-false, not-false, lt-ltb}
 use borrow.Rule.Slice.PartMut.{putMid}
 use Rattle.std.specs.declared.result.Result.the-variants.{Ok, Err}
+use Rattle.ordered.specs.Ranking.{Lawful}
 use Rattle.ordered.specs.Files.{Ascends, place, holds, located, filed, insertion}
-use Rattle.ordered.proofs.Order.{Order, false-from-not, same-not-before, before-not-after, same-from-neither, ascends-far}
+use Rattle.ordered.proofs.Order.{false-from-not, same-not-before, before-not-after, same-from-neither, ascends-far}
 
 -- a front that is clipped to the list is the front
 pub take-min : {T : Type 0} (n : ℕ) (xs : List T) → take (min n (length xs) - 0) xs ≡ take n xs
@@ -47,7 +48,7 @@ abbrev pub Chain : {T : Type 0} → (T → T → Bool) → List T → Type 0
 Chain before [] = Unit {0}
 Chain before (x ∷ xs) = All (λ y. before x y ≡ true) xs × Chain before xs
 
-module _ {T : Type 0} {before : T → T → Bool} {fields : T → List ℕ} (law : Order before fields) where
+module _ {T : Type 0} {before : T → T → Bool} {fields : T → List ℕ} (law : Lawful before fields) where
   pub chain-from-ascends : (xs : List T) → Ascends before xs → Chain before xs
   chain-from-ascends [] up = tt
   chain-from-ascends (x ∷ xs) up = (

@@ -11,18 +11,13 @@ use Rattle.std.specs.Orderings.{Ranked}
 use Rattle.std.specs.declared.cmp.Ordering.{Ordering}
 use Rattle.std.specs.declared.cmp.Ordering.the-variants.{Less, Equal, Greater}
 use Rattle.std.proofs.shelf.Tests.{cases-bool, cases-order}
-use Rattle.ordered.specs.Ranking.{Trichotomy}
+use Rattle.ordered.specs.Ranking.{Lawful}
 use Rattle.ordered.specs.Files.{Ascends}
 
 pub false-from-not : (b : Bool) → (b ≡ true → ⊥) → b ≡ false
 false-from-not b n = ⊎-elim (λ e. absurd (n e)) (λ e. e) (cases-bool b)
 
--- a ranking with its laws
-pub record Order {T : Type 0} (before : T → T → Bool) (fields : T → List ℕ) : Type 0 where
-  pub one : (x y : T) → Trichotomy before fields x y
-  pub trans : (x y z : T) → before x y ≡ true → before y z ≡ true → before x z ≡ true
-
-module _ {T : Type 0} {before : T → T → Bool} {fields : T → List ℕ} (law : Order before fields) where
+module _ {T : Type 0} {before : T → T → Bool} {fields : T → List ℕ} (law : Lawful before fields) where
   -- of two records that have the same rank neither comes before the other
   pub same-not-before : (x y : T) → fields x ≡ fields y → before x y ≡ false
   same-not-before x y e =

@@ -7,6 +7,7 @@ use mathlib.Core.Bool.{Bool, true, false, cond, not}
 use mathlib.Core.List.{List, [], _∷_}
 use lib.ListN.{length, getD}
 use Rattle.std.specs.Orderings.{Ranked}
+use Rattle.std.specs.Results.{Cases}
 use Rattle.std.specs.declared.cmp.Ordering.{Ordering}
 use Rattle.std.specs.declared.cmp.Ordering.the-variants.{Less, Equal, Greater}
 use Rattle.std.proofs.shelf.Lists.{getD-read}
@@ -14,16 +15,16 @@ use Rattle.std.proofs.shelf.Orders.{by-ranked}
 use Rattle.std.specs.declared.result.Result.{Result}
 use Rattle.std.specs.declared.result.Result.the-variants.{Ok, Err}
 use Rattle.std.proofs.shelf.Tests.{both-ways, cases-bool, cases-lt, cases-order, cond-true, cond-false, cond-both, not-true, not-false}
-use Rattle.ordered.specs.Ranking.{Trichotomy}
+use Rattle.ordered.specs.Ranking.{Lawful}
 use Rattle.ordered.specs.Files.{Ascends, place, holds, located, Told-by-place}
-use Rattle.ordered.proofs.Order.{Order, false-from-not, same-not-before, before-not-after, same-from-neither, ascends-far}
+use Rattle.ordered.proofs.Order.{false-from-not, same-not-before, before-not-after, same-from-neither, ascends-far}
 
 -- everything below low comes before the key, and nothing from high on does
 pub record Between {T : Type 0} (before : T → T → Bool) (key : T) (xs : List T) (low high : ℕ) : Type 0 where
   pub below : (k : ℕ) (d : T) → k < low → before (getD xs k d) key ≡ true
   pub above : (k : ℕ) (d : T) → high ≤ k → k < length xs → before (getD xs k d) key ≡ false
 
-module _ {T : Type 0} {before : T → T → Bool} {fields : T → List ℕ} (law : Order before fields) (key : T) (xs : List T) (up : Ascends before xs) where
+module _ {T : Type 0} {before : T → T → Bool} {fields : T → List ℕ} (law : Lawful before fields) (key : T) (xs : List T) (up : Ascends before xs) where
   -- the record x in the middle comes before the key
   pub between-up : (low high m : ℕ) (x : T) → m < length xs → x ≡ getD xs m x → before x key ≡ true → Between before key xs low high → Between before key xs (m + 1) high
   between-up low high m x in′ read e b = record {
@@ -79,7 +80,7 @@ place-after before key (x ∷ xs) d =
     (λ e. rw e (λ l. e))
     (cases-bool (before x key))
 
-module _ {T : Type 0} {before : T → T → Bool} {fields : T → List ℕ} (law : Order before fields) (key : T) (xs : List T) (at : ℕ) (is : at ≡ place before key xs) where
+module _ {T : Type 0} {before : T → T → Bool} {fields : T → List ℕ} (law : Lawful before fields) (key : T) (xs : List T) (at : ℕ) (is : at ≡ place before key xs) where
   held : (x : T) → at < length xs → x ≡ getD xs at x → holds before key xs ≡ not (before key x)
   held x l read = holds-place before key xs x (rw is at l) ∙ ap (λ y. not (before key y)) (sym (read ∙ ap (λ p. getD xs p x) is))
 
@@ -116,7 +117,7 @@ pub holds-within : {T : Type 0} (before : T → T → Bool) (key : T) (xs : List
 holds-within before key xs h =
     ⊎-elim (λ l. l) (λ l. absurd (both-ways _ (holds-none before key xs l) h)) (cases-lt (place before key xs) (length xs))
 
-module _ {T : Type 0} {before : T → T → Bool} {fields : T → List ℕ} (law : Order before fields) (key : T) (xs : List T) (up : Ascends before xs) where
+module _ {T : Type 0} {before : T → T → Bool} {fields : T → List ℕ} (law : Lawful before fields) (key : T) (xs : List T) (up : Ascends before xs) where
   place-here : holds before key xs ≡ true → (d : T) → fields (getD xs (place before key xs) d) ≡ fields key
   place-here h d =
       let l = holds-within before key xs h in
@@ -137,3 +138,12 @@ module _ {T : Type 0} {before : T → T → Bool} {fields : T → List ℕ} (law
       subst (Told-by-place before fields key xs) (sym is) (cond-both (holds before key xs) _ _ (Told-by-place before fields key xs)
       (λ h. (holds-within before key xs h, place-here h))
       (λ h. (place-within before key xs, place-before before key xs, place-behind h)))
+
+-- all that a search by halving tells of a list
+pub record Found {T : Type 0} (before : T → T → Bool) (fields : T → List ℕ) (key : T) (r : Result ℕ ℕ) (xs : List T) : Type 0 where
+  pub value : Ascends before xs → r ≡ located before key xs
+  pub cases : Ascends before xs → Told-by-place before fields key xs r
+  pub bound : Cases r (λ i. i < length xs) (λ i. i ≤ length xs)
+
+pub found : {T : Type 0} {before : T → T → Bool} {fields : T → List ℕ} → Lawful before fields → (key : T) (r : Result ℕ ℕ) (xs : List T) → (Ascends before xs → r ≡ located before key xs) → Cases r (λ i. i < length xs) (λ i. i ≤ length xs) → Found before fields key r xs
+found law key r xs answer within = record { value = answer; cases = λ up. told-by-place law key xs up r (answer up); bound = within }

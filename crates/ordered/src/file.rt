@@ -52,7 +52,15 @@ impl<'a, T: Rank + Copy> OrderedFile<'a, T> {
         ensures cases { λ r. ⌜ (Ascends before (inUse (now (self .entry))) → Told-by-place before fields (now (key .entry)) (inUse (now (self .entry))) r) ⌝ }
         ensures bound { λ r. ⌜ Cases r (λ i. i < length (inUse (now (self .entry)))) (λ i. i ≤ length (inUse (now (self .entry)))) ⌝ }
     {
-        locate(self.used(), key)
+        let records = self.used();
+        let at = lower_bound(records, key);
+        if at >= records.len() {
+            return Err(at);
+        }
+        match key.rank(&records[at]) {
+            Ordering::Equal => Ok(at),
+            _ => Err(at),
+        }
     }
 
     // Files a record in its place. Refused where its rank is there already, then where no place is left.
@@ -144,21 +152,6 @@ fn lower_bound<T: Rank>(records: &[T], key: &T) -> usize
         }
     }
     low
-}
-
-// The place of the key's rank among records that ascend.
-fn locate<T: Rank>(records: &[T], key: &T) -> Result<usize, usize>
-    ensures value { λ r. ⌜ (Ascends before (now (records .entry)) → r ≡ located before (now (key .entry)) (now (records .entry))) ⌝ }
-    ensures bound { λ r. ⌜ Cases r (λ i. i < length (now (records .entry))) (λ i. i ≤ length (now (records .entry))) ⌝ }
-{
-    let at = lower_bound(records, key);
-    if at >= records.len() {
-        return Err(at);
-    }
-    match key.rank(&records[at]) {
-        Ordering::Equal => Ok(at),
-        _ => Err(at),
-    }
 }
 
 // Moves the records from a place up to the count one place on, and writes one there.

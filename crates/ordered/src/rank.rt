@@ -4,7 +4,7 @@ ghost use mathlib.Core.Path.{_≡_};
 ghost use mathlib.Core.Bool.{Bool, true};
 ghost use mathlib.Core.List.{List};
 ghost use Rattle.std.specs.Orderings.{Ranked};
-ghost use Rattle.ordered.specs.Ranking.{Trichotomy};
+ghost use Rattle.ordered.specs.Ranking.{Lawful};
 use std::cmp::Ordering;
 
 // A record with a ranking.
@@ -15,10 +15,8 @@ pub trait Rank {
     // Whether the first record comes before the second.
     ghost before: { Self → Self → Bool };
 
-    // Of two records exactly one of before, same and after holds.
-    law trichotomy: { (x y : Self) → Trichotomy before fields x y };
-
-    law transitive: { (x y z : Self) → before x y ≡ true → before y z ≡ true → before x z ≡ true };
+    // Of two records exactly one of before, same and after holds; before is transitive.
+    law lawful: { Lawful before fields };
 
     // Less where this record comes before the other, Equal where both have the same rank, Greater where it comes after.
     fn rank(&self, other: &Self) -> Ordering

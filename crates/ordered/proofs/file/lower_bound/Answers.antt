@@ -2,13 +2,8 @@ use native.Mathlib.Omega.{arith}
 use borrow.Author.Needs.{needs}
 use mathlib.Core.Path.{refl}
 use Rattle.std.specs.Orderings.{Ranked}
-use Rattle.ordered.proofs.Order.{Order}
 use Rattle.ordered.proofs.Places.{between-up, between-down, not-before, place-between}
-use Rattle.ordered.proofs.file.lower_bound.Given as given
 use Rattle.ordered.proofs.file.lower_bound.Needs as need
-
-law : (g : given.Over) → Order (g .T·Rank .before) (g .T·Rank .fields)
-law g = record { one = g .T·Rank·met .trichotomy; trans = g .T·Rank·met .transitive }
 
 pub loop-low-holds : need.loop-low-holds
 loop-low-holds g c = (omega arith, omega arith, λ up. record { below = λ k d l. absurd (omega arith); above = λ k d l n. absurd (omega arith) })
@@ -18,8 +13,8 @@ loop-low-again g c = (
   omega arith,
   omega arith,
   λ up.
-      between-down (law g) (c .args .key .now) (c .args .records .now) up (c .loop-low .low) (c .loop-low .high) _ (c .index-records-middle .result) (omega arith) (c .index-records-middle .is)
-      (not-before (law g) (c .args .key .now) (c .args .records .now) up _ _ (c .rank .ensures) (c .in-rest .not-Less)) (c .loop-low .inv .2 up),
+      between-down (g .T·Rank·met .lawful) (c .args .key .now) (c .args .records .now) up (c .loop-low .low) (c .loop-low .high) _ (c .index-records-middle .result) (omega arith) (c .index-records-middle .is)
+      (not-before (g .T·Rank·met .lawful) (c .args .key .now) (c .args .records .now) up _ _ (c .rank .ensures) (c .in-rest .not-Less)) (c .loop-low .inv .2 up),
 )
 
 pub loop-low-again-in-Less : need.loop-low-again-in-Less
@@ -27,7 +22,7 @@ loop-low-again-in-Less g c = (
   omega arith,
   omega arith,
   λ up.
-      between-up (law g) (c .args .key .now) (c .args .records .now) up (c .loop-low .low) (c .loop-low .high) _ (c .index-records-middle .result) (omega arith) (c .index-records-middle .is)
+      between-up (g .T·Rank·met .lawful) (c .args .key .now) (c .args .records .now) up (c .loop-low .low) (c .loop-low .high) _ (c .index-records-middle .result) (omega arith) (c .index-records-middle .is)
       (c .in-Less .ensures tt) (c .loop-low .inv .2 up),
 )
 

@@ -6,13 +6,8 @@ use borrow.Author.Needs.{needs}
 use borrow.Rule.Slice.Mut.{setVals}
 use Rattle.std.proofs.shelf.Lists.{length-take, length-take-le}
 use Rattle.ordered.specs.Files.{inUse, room, Ascends, standing}
-use Rattle.ordered.proofs.Order.{Order}
 use Rattle.ordered.proofs.Filing.{take-min, ascends-kept-by}
-use Rattle.ordered.proofs.file.OrderedFile.compact.Given as given
 use Rattle.ordered.proofs.file.OrderedFile.compact.Needs as need
-
-law : (g : given.Over) → Order (g .T·Rank .before) (g .T·Rank .fields)
-law g = record { one = g .T·Rank·met .trichotomy; trans = g .T·Rank·met .transitive }
 
 pub returns : need.returns
 returns g c =
@@ -25,7 +20,7 @@ returns g c =
     let long : length (c .sweep-self .last .memory) ≡ length memory = search needs in
     record {
       items = left;
-      ascends = λ up. (omega (arith, swept .bound, c .min-n .ensures), subst (Ascends (g .T·Rank .before)) (sym left) (ascends-kept-by (law g) _ (inUse file) up));
+      ascends = λ up. (omega (arith, swept .bound, c .min-n .ensures), subst (Ascends (g .T·Rank .before)) (sym left) (ascends-kept-by (g .T·Rank·met .lawful) _ (inUse file) up));
       same = λ s all.
           let whole : r ≡ c .min-n .result =
           sym (length-take-le r (c .sweep-self .last .memory) (omega (arith, swept .bound, c .min-n .ensures))) ∙ ap length (left ∙ all) ∙ length-take (file .count) memory ∙ omega (arith, c .min-n .ensures) in

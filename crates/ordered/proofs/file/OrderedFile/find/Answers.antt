@@ -1,25 +1,34 @@
-use mathlib.Core.Path.{_≡_, sym, ap, subst, _∙_}
-use lib.ListN.{length}
-use Prim.Native.Nat.{_<_, _≤_}
-use Rattle.std.specs.Results.{Cases}
-use Rattle.ordered.specs.Files.{inUse, Ascends, located}
-use Rattle.ordered.proofs.Order.{Order}
-use Rattle.ordered.proofs.Places.{told-by-place}
-use Rattle.ordered.proofs.file.OrderedFile.find.Given as given
+use native.Mathlib.Omega.{arith}
+use mathlib.Core.Path.{subst}
+use Rattle.std.specs.declared.result.Result.the-variants.{Ok, Err}
+use Rattle.ordered.proofs.Places.{Found, found, located-same, located-other, located-none}
 use Rattle.ordered.proofs.file.OrderedFile.find.Needs as need
 
-law : (g : given.Over) → Order (g .T·Rank .before) (g .T·Rank .fields)
-law g = record { one = g .T·Rank·met .trichotomy; trans = g .T·Rank·met .transitive }
+pub returns-then-at-records : need.returns-then-at-records
+returns-then-at-records g c =
+    let xs = c .used-records .result .now in
+    let key = c .args .key .now in
+    let at = c .lower-bound-at .result in
+    let told = subst (Found (g .T·Rank .before) (g .T·Rank .fields) key (Err at)) (c .used-records .ensures .value)
+    (found (g .T·Rank·met .lawful) key (Err at) xs (λ up. located-none (g .T·Rank·met .lawful) key xs at (c .lower-bound-at .ensures .value up) (c .if-at-records .taken)) (c .lower-bound-at .ensures .bound)) in
+    record { value = told .value; cases = told .cases; bound = told .bound }
 
-pub returns : need.returns
-returns g c =
-    let before = g .T·Rank .before in
-    let xs = inUse (c .args .self .now) in
-    let seen = c .used .ensures .value in
-    let answer = λ (up : Ascends before xs).
-    c .locate .ensures .value (subst (Ascends before) (sym seen) up) ∙ ap (located before (c .args .key .now)) seen in
-    record {
-      value = answer;
-      cases = λ up. told-by-place (law g) (c .args .key .now) xs up (c .locate .result) (answer up);
-      bound = subst (λ l. Cases (c .locate .result) (λ i. i < length l) (λ i. i ≤ length l)) seen (c .locate .ensures .bound);
-    }
+pub returns-in-Equal : need.returns-in-Equal
+returns-in-Equal g c =
+    let xs = c .used-records .result .now in
+    let key = c .args .key .now in
+    let at = c .lower-bound-at .result in
+    let told = subst (Found (g .T·Rank .before) (g .T·Rank .fields) key (Ok at)) (c .used-records .ensures .value)
+    (found (g .T·Rank·met .lawful) key (Ok at) xs (λ up. located-same (g .T·Rank·met .lawful) key xs at (c .lower-bound-at .ensures .value up) (c .index-records-at .result) (c .if-at-records .left) (c .index-records-at .is) (c .in-Equal .ensures tt))
+    (c .if-at-records .left)) in
+    record { value = told .value; cases = told .cases; bound = told .bound }
+
+pub returns-in-rest : need.returns-in-rest
+returns-in-rest g c =
+    let xs = c .used-records .result .now in
+    let key = c .args .key .now in
+    let at = c .lower-bound-at .result in
+    let told = subst (Found (g .T·Rank .before) (g .T·Rank .fields) key (Err at)) (c .used-records .ensures .value)
+    (found (g .T·Rank·met .lawful) key (Err at) xs (λ up. located-other (g .T·Rank·met .lawful) key xs at (c .lower-bound-at .ensures .value up) (c .index-records-at .result) (c .rank .result) (c .if-at-records .left) (c .index-records-at .is) (c .rank .ensures) (c .in-rest .not-Equal))
+    (c .lower-bound-at .ensures .bound)) in
+    record { value = told .value; cases = told .cases; bound = told .bound }

@@ -8,13 +8,8 @@ use Rattle.std.specs.declared.result.Result.the-variants.{Ok}
 use Rattle.std.proofs.shelf.Lists.{length-take}
 use Rattle.std.specs.shelf.Lists.{inserted}
 use Rattle.ordered.specs.Files.{inUse, room, Ascends, holds, filed, insertion, told, left}
-use Rattle.ordered.proofs.Order.{Order}
 use Rattle.ordered.proofs.Filing.{located-err, insertion-ok, filed-inserted, ascends-filed}
-use Rattle.ordered.proofs.file.OrderedFile.insert.Given as given
 use Rattle.ordered.proofs.file.OrderedFile.insert.Needs as need
-
-law : (g : given.Over) → Order (g .T·Rank .before) (g .T·Rank .fields)
-law g = record { one = g .T·Rank·met .trichotomy; trans = g .T·Rank·met .transitive }
 
 pub returns : need.returns
 returns g c =
@@ -29,7 +24,7 @@ returns g c =
     record {
       answers = λ s up. sym (ap told (outcome up));
       items = λ s up. put up ∙ sym (ap (left xs) (outcome up));
-      ascends = λ s up. (search needs, subst (Ascends before) (sym (put up)) (ascends-filed (law g) item xs (spot up .0) up));
+      ascends = λ s up. (search needs, subst (Ascends before) (sym (put up)) (ascends-filed (g .T·Rank·met .lawful) item xs (spot up .0) up));
       same = search needs;
       memory = search needs;
     }

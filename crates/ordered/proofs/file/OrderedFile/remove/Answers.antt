@@ -7,13 +7,8 @@ use borrow.Author.Tests.{lt-ltb, le-ltb}
 use Rattle.std.specs.shelf.Lists.{removed}
 use Rattle.std.proofs.shelf.Lists.{length-take}
 use Rattle.ordered.specs.Files.{inUse, room, Ascends}
-use Rattle.ordered.proofs.Order.{Order}
 use Rattle.ordered.proofs.Filing.{take-min, ascends-removed}
-use Rattle.ordered.proofs.file.OrderedFile.remove.Given as given
 use Rattle.ordered.proofs.file.OrderedFile.remove.Needs as need
-
-law : (g : given.Over) → Order (g .T·Rank .before) (g .T·Rank .fields)
-law g = record { one = g .T·Rank·met .trichotomy; trans = g .T·Rank·met .transitive }
 
 pub returns-then-at-n : need.returns-then-at-n
 returns-then-at-n g c =
@@ -36,7 +31,7 @@ returns g c =
     record {
       test = sym (lt-ltb _ _ (omega (arith, long, c .min-n .ensures)));
       items = λ e. left;
-      ascends = λ s up. (search needs, subst (Ascends (g .T·Rank .before)) (sym left) (ascends-removed (law g) xs (c .args .at) up));
+      ascends = λ s up. (search needs, subst (Ascends (g .T·Rank .before)) (sym left) (ascends-removed (g .T·Rank·met .lawful) xs (c .args .at) up));
       same = search needs;
       memory = search needs;
     }

@@ -5,13 +5,8 @@ use lib.ListN.{length, getD, set}
 use borrow.Author.Needs.{needs}
 use Rattle.std.proofs.shelf.Lists.{length-take, length-set, getD-read}
 use Rattle.ordered.specs.Files.{inUse, room, Ascends}
-use Rattle.ordered.proofs.Order.{Order}
 use Rattle.ordered.proofs.Filing.{take-of-set, ascends-set}
-use Rattle.ordered.proofs.file.OrderedFile.update.Given as given
 use Rattle.ordered.proofs.file.OrderedFile.update.Needs as need
-
-law : (g : given.Over) → Order (g .T·Rank .before) (g .T·Rank .fields)
-law g = record { one = g .T·Rank·met .trichotomy; trans = g .T·Rank·met .transitive }
 
 pub index-self-at : need.index-self-at
 index-self-at g c =
@@ -31,7 +26,7 @@ returns-in-Equal g c =
     record {
       test = (inside, ap (g .T·Rank .fields) (sym (getD-read xs at there inside read item)) ∙ same);
       items = λ e. written;
-      ascends = λ s up. (search (needs, length-set), subst (Ascends (g .T·Rank .before)) (sym written) (ascends-set (law g) xs at there item inside read same up));
+      ascends = λ s up. (search (needs, length-set), subst (Ascends (g .T·Rank .before)) (sym written) (ascends-set (g .T·Rank·met .lawful) xs at there item inside read same up));
       same = search needs;
       memory = search (needs, length-set);
     }
