@@ -31,6 +31,6 @@ filled n (a ∷ as′) = left (filled n as′) (entering n (filled n as′) (a .
 abbrev pub Goes-on : Directory → Directory → List ℕ → ℕ → Type 0
 Goes-on d d′ c k = (attempts : List Listed) → entries d ≡ filled (places d) attempts → entries d′ ≡ filled (places d′) (record { code = c; number = k } ∷ attempts)
 
--- after any attempts on an empty directory, a search answers by the accepted ones alone
+-- after any attempts on an empty directory, a look-up answers by the accepted ones alone
 abbrev pub Found-as-accepted : Directory → List ℕ → Result ℕ Fault → Type 0
 Found-as-accepted d c r = (attempts : List Listed) → entries d ≡ filled (places d) attempts → r ≡ finding (accepted (places d) attempts) c

@@ -43,3 +43,13 @@ pub words-none : (xs : List ℕ) → length xs ≡ 0 → words xs ≡ []
 unfolding words
 words-none [] e = refl
 words-none (c ∷ cs) e = absurd (omega arith)
+
+-- a word comes off the front of words that are not all gone
+pub word-off : (ws : List (List ℕ)) (w : List ℕ) (rest : List (List ℕ)) → ws ≡ ended w rest → (length w ≡ 0 → ws ≡ []) → 0 < length ws → ws ≡ w ∷ rest
+word-off ws [] rest e none h = absurd (omega (arith, ap length (none refl)))
+word-off ws (c ∷ cs) rest e none h = e
+
+-- where a word came off, there was one
+pub word-was : (ws : List (List ℕ)) (w : List ℕ) (rest : List (List ℕ)) → ws ≡ ended w rest → 0 < length w → 0 < length ws
+word-was ws [] rest e h = absurd (omega arith)
+word-was ws (c ∷ cs) rest e h = omega (arith, ap length e)

@@ -6,11 +6,9 @@ use mathlib.Core.List.{List, [], _∷_, _++_}
 use lib.Dec.{eqb}
 use lib.IntN.{ℤ}
 use lib.ListN.{length, getD}
+use Rattle.std.specs.Options.{mapped}
+use Rattle.std.specs.declared.option.Option.{Option}
 use Rattle.std.specs.declared.option.Option.the-variants.{Some, None}
-use Rattle.std.specs.declared.result.Result.{Result}
-use Rattle.std.specs.declared.result.Result.the-variants.{Ok, Err}
-use Rattle.evening_file.specs.declared.fault.Fault.{Fault}
-use Rattle.evening_file.specs.declared.fault.Fault.the-variants as fault
 use Rattle.evening_file.specs.declared.words.Word.{Word}
 use Rattle.evening_file.specs.declared.words.Words.{Words}
 use Rattle.evening_file.specs.declared.words.Word.the-variants.{Code, Number, Letter}
@@ -57,17 +55,25 @@ isLetter (Letter b) = true
 abbrev pub left : Words → List (List ℕ)
 left ws = words (ws .rest .now)
 
--- the letter before these bytes is a word of its own, and n words follow it; else 27
-abbrev pub Followed : List ℕ → ℕ → Result Words Fault → Type 0
-Followed rest n (Ok ws) = (left ws ≡ words rest) × ((parted rest ≡ true) × (length (words rest) ≡ n))
-Followed rest n (Err e) = (e ≡ fault.Form) × ((parted rest && eqb (length (words rest)) n) ≡ false)
+-- the letter before these bytes is a word of its own, and n words follow it
+abbrev pub Followed : List ℕ → ℕ → Option Words → Type 0
+Followed rest n (Some ws) = (left ws ≡ words rest) × ((parted rest ≡ true) × (length (words rest) ≡ n))
+Followed rest n None = (parted rest && eqb (length (words rest)) n) ≡ false
 
--- the next of the words s is handed out, and t is left; 27 where there is none
-abbrev pub Handed : Words → Words → Result Word Fault → Type 0
-Handed s t (Ok w) = left s ≡ textOf w ∷ left t
-Handed s t (Err e) = (e ≡ fault.Form) × (left s ≡ [])
+-- the next of the words s is handed out, and t is left
+abbrev pub Handed : Words → Words → List ℕ → Type 0
+Handed s t w = 0 < length (left s) → left s ≡ w ∷ left t
 
--- the same, as the value of a number; 28 where it is none
-abbrev pub Valued : Words → Words → Result ℤ Fault → Type 0
-Valued s t (Ok z) = (left s ≡ getD (left s) 0 [] ∷ left t) × (number (getD (left s) 0 []) ≡ Some z)
-Valued s t (Err e) = 0 < length (left s) → (e ≡ fault.Number) × (number (getD (left s) 0 []) ≡ None)
+-- the same, as the value of a number
+abbrev pub Valued : Words → Words → Option ℤ → Type 0
+Valued s t o = 0 < length (left s) → (left s ≡ getD (left s) 0 [] ∷ left t) × (o ≡ number (getD (left s) 0 []))
+
+-- both of two values
+abbrev pub both : {X Y : Type 0} → Option X → Option Y → Option (X × Y)
+both None o = None
+both (Some x) o = mapped (λ y. (x, y)) o
+
+-- the next two of them, as the values of numbers
+abbrev pub Paired : Words → Words → Option (ℤ × ℤ) → Type 0
+Paired s t o =
+    1 < length (left s) → (left s ≡ getD (left s) 0 [] ∷ getD (left s) 1 [] ∷ left t) × (o ≡ both (number (getD (left s) 0 [])) (number (getD (left s) 1 [])))

@@ -1,8 +1,6 @@
 // The twelve forms of a line: for each, its words in their order and what they say.
 ghost use mathlib.Core.Path.{_≡_};
 ghost use lib.ListN.{length};
-ghost use Rattle.std.specs.Options.{okOr};
-ghost use Rattle.evening_file.specs.declared.fault.Fault.the-variants.{Number};
 ghost use Rattle.evening_file.specs.Lines.{account, contract, future, numbers, option, minimum, rule, trade, price, close, expiry, transfer, reading, behind, formed};
 ghost use Rattle.evening_file.specs.Said.{seen};
 ghost use Rattle.evening_file.specs.Words.{left};
@@ -15,8 +13,10 @@ use crate::words::Words;
 fn read_account<'a>(rest: &'a [u8]) -> Result<Line<'a>, Fault>
     ensures { λ r. ⌜ seen r ≡ behind (now (rest .entry)) account ⌝ }
 {
-    let mut words = Words::after_letter(rest, 1)?;
-    let account = words.code()?.text();
+    let Some(mut words) = Words::after_letter(rest, 1) else {
+        return Err(Fault::Form);
+    };
+    let account = words.text();
     Ok(Line::Account { account })
 }
 
@@ -24,15 +24,23 @@ fn read_account<'a>(rest: &'a [u8]) -> Result<Line<'a>, Fault>
 fn read_contract<'a>(rest: &'a [u8]) -> Result<Line<'a>, Fault>
     ensures { λ r. ⌜ seen r ≡ behind (now (rest .entry)) contract ⌝ }
 {
-    let mut words = Words::after_letter(rest, 7)?;
-    let listed = words.number()?;
-    let code = words.code()?.text();
-    let style = words.letter()?.style()?;
-    let number = listed.value()?;
-    let volume = words.value()?;
-    let expiry = words.value()?;
-    let price = words.value()?;
-    let haircut = words.value()?;
+    let Some(mut words) = Words::after_letter(rest, 7) else {
+        return Err(Fault::Form);
+    };
+    let listed = words.number();
+    let code = words.text();
+    let Some(style) = words.letter().style() else {
+        return Err(Fault::Form);
+    };
+    let Some(number) = listed.value() else {
+        return Err(Fault::Number);
+    };
+    let Some((volume, expiry)) = words.two_values() else {
+        return Err(Fault::Number);
+    };
+    let Some((price, haircut)) = words.two_values() else {
+        return Err(Fault::Number);
+    };
     Ok(Line::Contract {
         number,
         code,
@@ -48,10 +56,13 @@ fn read_contract<'a>(rest: &'a [u8]) -> Result<Line<'a>, Fault>
 fn read_future<'a>(rest: &'a [u8]) -> Result<Line<'a>, Fault>
     ensures { λ r. ⌜ seen r ≡ behind (now (rest .entry)) future ⌝ }
 {
-    let mut words = Words::after_letter(rest, 3)?;
-    let code = words.code()?.text();
-    let commodity = words.value()?;
-    let range = words.value()?;
+    let Some(mut words) = Words::after_letter(rest, 3) else {
+        return Err(Fault::Form);
+    };
+    let code = words.text();
+    let Some((commodity, range)) = words.two_values() else {
+        return Err(Fault::Number);
+    };
     Ok(Line::Future {
         code,
         commodity,
@@ -60,25 +71,30 @@ fn read_future<'a>(rest: &'a [u8]) -> Result<Line<'a>, Fault>
 }
 
 // Reads the sixteen losses of an option, each a number.
-fn read_losses(words: &mut Words<'_>) -> Result<[i64; LOSSES], Fault>
-    ensures { λ r. ⌜ (length (left (now (words .entry))) ≡ 16 → r ≡ okOr (numbers (left (now (words .entry)))) Number) ⌝ }
+fn read_losses(words: &mut Words<'_>) -> Option<[i64; LOSSES]>
+    ensures { λ r. ⌜ (length (left (now (words .entry))) ≡ 16 → r ≡ numbers (left (now (words .entry)))) ⌝ }
 {
     let mut losses = [0; LOSSES];
     for i in 0..LOSSES {
         losses[i] = words.value()?;
     }
-    Ok(losses)
+    Some(losses)
 }
 
 // Reads `O code commodity delta` and sixteen losses.
 fn read_option<'a>(rest: &'a [u8]) -> Result<Line<'a>, Fault>
     ensures { λ r. ⌜ seen r ≡ behind (now (rest .entry)) option ⌝ }
 {
-    let mut words = Words::after_letter(rest, 3 + LOSSES)?;
-    let code = words.code()?.text();
-    let commodity = words.value()?;
-    let delta = words.value()?;
-    let losses = read_losses(&mut words)?;
+    let Some(mut words) = Words::after_letter(rest, 3 + LOSSES) else {
+        return Err(Fault::Form);
+    };
+    let code = words.text();
+    let Some((commodity, delta)) = words.two_values() else {
+        return Err(Fault::Number);
+    };
+    let Some(losses) = read_losses(&mut words) else {
+        return Err(Fault::Number);
+    };
     Ok(Line::Option {
         code,
         commodity,
@@ -91,9 +107,12 @@ fn read_option<'a>(rest: &'a [u8]) -> Result<Line<'a>, Fault>
 fn read_minimum<'a>(rest: &'a [u8]) -> Result<Line<'a>, Fault>
     ensures { λ r. ⌜ seen r ≡ behind (now (rest .entry)) minimum ⌝ }
 {
-    let mut words = Words::after_letter(rest, 2)?;
-    let commodity = words.value()?;
-    let minimum = words.value()?;
+    let Some(mut words) = Words::after_letter(rest, 2) else {
+        return Err(Fault::Form);
+    };
+    let Some((commodity, minimum)) = words.two_values() else {
+        return Err(Fault::Number);
+    };
     Ok(Line::Minimum { commodity, minimum })
 }
 
@@ -101,11 +120,18 @@ fn read_minimum<'a>(rest: &'a [u8]) -> Result<Line<'a>, Fault>
 fn read_rule<'a>(rest: &'a [u8]) -> Result<Line<'a>, Fault>
     ensures { λ r. ⌜ seen r ≡ behind (now (rest .entry)) rule ⌝ }
 {
-    let mut words = Words::after_letter(rest, 4)?;
-    let kind = words.letter()?.rule_kind()?;
-    let first = words.value()?;
-    let second = words.value()?;
-    let credit = words.value()?;
+    let Some(mut words) = Words::after_letter(rest, 4) else {
+        return Err(Fault::Form);
+    };
+    let Some(kind) = words.letter().rule_kind() else {
+        return Err(Fault::Form);
+    };
+    let Some((first, second)) = words.two_values() else {
+        return Err(Fault::Number);
+    };
+    let Some(credit) = words.value() else {
+        return Err(Fault::Number);
+    };
     Ok(Line::Rule {
         kind,
         first,
@@ -118,12 +144,15 @@ fn read_rule<'a>(rest: &'a [u8]) -> Result<Line<'a>, Fault>
 fn read_trade<'a>(rest: &'a [u8]) -> Result<Line<'a>, Fault>
     ensures { λ r. ⌜ seen r ≡ behind (now (rest .entry)) trade ⌝ }
 {
-    let mut words = Words::after_letter(rest, 5)?;
-    let buyer = words.code()?.text();
-    let seller = words.code()?.text();
-    let code = words.code()?.text();
-    let lots = words.value()?;
-    let price = words.value()?;
+    let Some(mut words) = Words::after_letter(rest, 5) else {
+        return Err(Fault::Form);
+    };
+    let buyer = words.text();
+    let seller = words.text();
+    let code = words.text();
+    let Some((lots, price)) = words.two_values() else {
+        return Err(Fault::Number);
+    };
     Ok(Line::Trade {
         buyer,
         seller,
@@ -137,9 +166,13 @@ fn read_trade<'a>(rest: &'a [u8]) -> Result<Line<'a>, Fault>
 fn read_price<'a>(rest: &'a [u8]) -> Result<Line<'a>, Fault>
     ensures { λ r. ⌜ seen r ≡ behind (now (rest .entry)) price ⌝ }
 {
-    let mut words = Words::after_letter(rest, 2)?;
-    let code = words.code()?.text();
-    let price = words.value()?;
+    let Some(mut words) = Words::after_letter(rest, 2) else {
+        return Err(Fault::Form);
+    };
+    let code = words.text();
+    let Some(price) = words.value() else {
+        return Err(Fault::Number);
+    };
     Ok(Line::Price { code, price })
 }
 
@@ -147,7 +180,9 @@ fn read_price<'a>(rest: &'a [u8]) -> Result<Line<'a>, Fault>
 fn read_close<'a>(rest: &'a [u8]) -> Result<Line<'a>, Fault>
     ensures { λ r. ⌜ seen r ≡ behind (now (rest .entry)) close ⌝ }
 {
-    let _ = Words::after_letter(rest, 0)?;
+    let Some(_) = Words::after_letter(rest, 0) else {
+        return Err(Fault::Form);
+    };
     Ok(Line::Close)
 }
 
@@ -155,9 +190,13 @@ fn read_close<'a>(rest: &'a [u8]) -> Result<Line<'a>, Fault>
 fn read_expiry<'a>(rest: &'a [u8]) -> Result<Line<'a>, Fault>
     ensures { λ r. ⌜ seen r ≡ behind (now (rest .entry)) expiry ⌝ }
 {
-    let mut words = Words::after_letter(rest, 2)?;
-    let code = words.code()?.text();
-    let price = words.value()?;
+    let Some(mut words) = Words::after_letter(rest, 2) else {
+        return Err(Fault::Form);
+    };
+    let code = words.text();
+    let Some(price) = words.value() else {
+        return Err(Fault::Number);
+    };
     Ok(Line::Expiry { code, price })
 }
 
@@ -165,9 +204,11 @@ fn read_expiry<'a>(rest: &'a [u8]) -> Result<Line<'a>, Fault>
 fn read_transfer<'a>(rest: &'a [u8]) -> Result<Line<'a>, Fault>
     ensures { λ r. ⌜ seen r ≡ behind (now (rest .entry)) transfer ⌝ }
 {
-    let mut words = Words::after_letter(rest, 2)?;
-    let from = words.code()?.text();
-    let to = words.code()?.text();
+    let Some(mut words) = Words::after_letter(rest, 2) else {
+        return Err(Fault::Form);
+    };
+    let from = words.text();
+    let to = words.text();
     Ok(Line::Transfer { from, to })
 }
 
@@ -175,13 +216,15 @@ fn read_transfer<'a>(rest: &'a [u8]) -> Result<Line<'a>, Fault>
 fn read_reading<'a>(rest: &'a [u8]) -> Result<Line<'a>, Fault>
     ensures { λ r. ⌜ seen r ≡ behind (now (rest .entry)) reading ⌝ }
 {
-    let mut words = Words::after_letter(rest, 1)?;
-    let account = words.code()?.text();
+    let Some(mut words) = Words::after_letter(rest, 1) else {
+        return Err(Fault::Form);
+    };
+    let account = words.text();
     Ok(Line::Reading { account })
 }
 
 // Reads a line by the form that its letter begins.
-pub fn read_form<'a>(line: &'a [u8]) -> Result<Line<'a>, Fault>
+pub(crate) fn read_form<'a>(line: &'a [u8]) -> Result<Line<'a>, Fault>
     ensures { λ r. ⌜ seen r ≡ formed (now (line .entry)) ⌝ }
 {
     match line {

@@ -3,7 +3,7 @@ use terms::RuleKind;
 use terms::Style;
 
 // How many losses an option has.
-pub const LOSSES: usize = 16;
+pub(crate) const LOSSES: usize = 16;
 
 // An instruction, with its code words as they stand in the line.
 #[derive(Clone, Copy)]

@@ -1,24 +1,19 @@
 // The words of a line, handed out one at a time, each as what the line's form expects next.
 ghost use mathlib.Core.Path.{_≡_};
 ghost use mathlib.Core.Bool.{true};
-ghost use mathlib.Core.List.{[], _∷_};
+ghost use mathlib.Core.List.{[]};
 ghost use Prim.Native.Nat.{_≤_, _<_};
 ghost use lib.ListN.{length, getD, take, drop};
-ghost use Rattle.std.specs.Options.{okOr};
-ghost use Rattle.std.specs.Results.{Cases};
-ghost use Rattle.std.specs.Vec.{made};
-ghost use Rattle.evening_file.specs.declared.fault.Fault.the-variants.{Form, Number};
 ghost use Rattle.evening_file.specs.Letters.{style, ruleKind};
 ghost use Rattle.evening_file.specs.Numbers.{number};
-ghost use Rattle.evening_file.specs.Words.{words, ended, parted, textOf, isNumber, isLetter, left, Followed, Handed, Valued};
-use crate::fault::Fault;
+ghost use Rattle.evening_file.specs.Words.{words, ended, parted, textOf, isNumber, isLetter, left, Followed, Handed, Valued, Paired};
 use crate::numbers::number_value;
 use terms::RuleKind;
 use terms::Style;
 
 // A word, by what its form takes it for; each case holds its part of the line.
 #[derive(Clone, Copy)]
-pub enum Word<'a> {
+pub(crate) enum Word<'a> {
     Code(&'a [u8]),
     Number(&'a [u8]),
     Letter(&'a [u8]),
@@ -26,7 +21,7 @@ pub enum Word<'a> {
 
 impl<'a> Word<'a> {
     // The word's part of the line.
-    pub fn text(self) -> &'a [u8]
+    pub(crate) fn text(self) -> &'a [u8]
         ensures { λ r. ⌜ now r ≡ textOf (self .entry) ⌝ }
     {
         match self {
@@ -37,85 +32,101 @@ impl<'a> Word<'a> {
     }
 
     // The value of a number.
-    pub fn value(self) -> Result<i64, Fault>
-        ensures { λ r. ⌜ (isNumber (self .entry) ≡ true → r ≡ okOr (number (textOf (self .entry))) Number) ⌝ }
+    pub(crate) fn value(self) -> Option<i64>
+        ensures { λ r. ⌜ (isNumber (self .entry) ≡ true → r ≡ number (textOf (self .entry))) ⌝ }
     {
         match self {
             Word::Number(text) => number_value(text),
-            _ => Err(Fault::Number),
+            _ => None,
         }
     }
 
     // The style that a letter word names.
-    pub fn style(self) -> Result<Style, Fault>
-        ensures { λ r. ⌜ (isLetter (self .entry) ≡ true → r ≡ okOr (style (textOf (self .entry))) Form) ⌝ }
+    pub(crate) fn style(self) -> Option<Style>
+        ensures { λ r. ⌜ (isLetter (self .entry) ≡ true → r ≡ style (textOf (self .entry))) ⌝ }
     {
         match self {
-            Word::Letter([b'F']) => Ok(Style::Future),
-            Word::Letter([b'S']) => Ok(Style::Storable),
-            Word::Letter([b'P']) => Ok(Style::Premium),
-            _ => Err(Fault::Form),
+            Word::Letter([b'F']) => Some(Style::Future),
+            Word::Letter([b'S']) => Some(Style::Storable),
+            Word::Letter([b'P']) => Some(Style::Premium),
+            _ => None,
         }
     }
 
     // The kind of rule that a letter word names.
-    pub fn rule_kind(self) -> Result<RuleKind, Fault>
-        ensures { λ r. ⌜ (isLetter (self .entry) ≡ true → r ≡ okOr (ruleKind (textOf (self .entry))) Form) ⌝ }
+    pub(crate) fn rule_kind(self) -> Option<RuleKind>
+        ensures { λ r. ⌜ (isLetter (self .entry) ≡ true → r ≡ ruleKind (textOf (self .entry))) ⌝ }
     {
         match self {
-            Word::Letter([b'P']) => Ok(RuleKind::Perfect),
-            Word::Letter([b'R']) => Ok(RuleKind::Regular),
-            _ => Err(Fault::Form),
+            Word::Letter([b'P']) => Some(RuleKind::Perfect),
+            Word::Letter([b'R']) => Some(RuleKind::Regular),
+            _ => None,
         }
     }
 }
 
 // The words that a line still has to hand out.
 #[derive(Clone, Copy)]
-pub struct Words<'a> {
+pub(crate) struct Words<'a> {
     rest: &'a [u8],
 }
 
 impl<'a> Words<'a> {
-    // The words behind a line's letter: the letter is a word of its own, and `count` words follow it.
-    pub fn after_letter(rest: &'a [u8], count: usize) -> Result<Words<'a>, Fault>
+    // The words behind a line's letter, if the letter is a word of its own and `count` words follow it.
+    pub(crate) fn after_letter(rest: &'a [u8], count: usize) -> Option<Words<'a>>
         ensures { λ r. ⌜ Followed (now (rest .entry)) count r ⌝ }
     {
         let words = Words { rest };
         if !begins_apart(rest) || words.count() != count {
-            return Err(Fault::Form);
+            return None;
         }
-        Ok(words)
+        Some(words)
     }
 
     // The next word, a code.
-    pub fn code(&mut self) -> Result<Word<'a>, Fault>
-        ensures { λ r. ⌜ Handed (now (self .entry)) (now (self .exit)) r ⌝ }
+    fn code(&mut self) -> Word<'a>
+        ensures { λ r. ⌜ Handed (now (self .entry)) (now (self .exit)) (textOf r) ⌝ }
     {
-        Ok(Word::Code(self.next()?))
+        Word::Code(self.next())
+    }
+
+    // The text of the next word, a code.
+    pub(crate) fn text(&mut self) -> &'a [u8]
+        ensures { λ r. ⌜ Handed (now (self .entry)) (now (self .exit)) (now r) ⌝ }
+    {
+        self.code().text()
     }
 
     // The next word, a number.
-    pub fn number(&mut self) -> Result<Word<'a>, Fault>
-        ensures handed { λ r. ⌜ Handed (now (self .entry)) (now (self .exit)) r ⌝ }
-        ensures kind { λ r. ⌜ made r (λ w. isNumber w ≡ true) ⌝ }
+    pub(crate) fn number(&mut self) -> Word<'a>
+        ensures handed { λ r. ⌜ Handed (now (self .entry)) (now (self .exit)) (textOf r) ⌝ }
+        ensures kind { λ r. ⌜ isNumber r ≡ true ⌝ }
     {
-        Ok(Word::Number(self.next()?))
-    }
-
-    // The value of the next word, a number.
-    pub fn value(&mut self) -> Result<i64, Fault>
-        ensures { λ r. ⌜ Valued (now (self .entry)) (now (self .exit)) r ⌝ }
-    {
-        self.number()?.value()
+        Word::Number(self.next())
     }
 
     // The next word, a letter word.
-    pub fn letter(&mut self) -> Result<Word<'a>, Fault>
-        ensures handed { λ r. ⌜ Handed (now (self .entry)) (now (self .exit)) r ⌝ }
-        ensures kind { λ r. ⌜ made r (λ w. isLetter w ≡ true) ⌝ }
+    pub(crate) fn letter(&mut self) -> Word<'a>
+        ensures handed { λ r. ⌜ Handed (now (self .entry)) (now (self .exit)) (textOf r) ⌝ }
+        ensures kind { λ r. ⌜ isLetter r ≡ true ⌝ }
     {
-        Ok(Word::Letter(self.next()?))
+        Word::Letter(self.next())
+    }
+
+    // The value of the next word, a number.
+    pub(crate) fn value(&mut self) -> Option<i64>
+        ensures { λ r. ⌜ Valued (now (self .entry)) (now (self .exit)) r ⌝ }
+    {
+        self.number().value()
+    }
+
+    // The values of the next two words, both numbers.
+    pub(crate) fn two_values(&mut self) -> Option<(i64, i64)>
+        ensures { λ r. ⌜ Paired (now (self .entry)) (now (self .exit)) r ⌝ }
+    {
+        let first = self.number();
+        let second = self.number();
+        Some((first.value()?, second.value()?))
     }
 
     // How many words are left.
@@ -124,24 +135,22 @@ impl<'a> Words<'a> {
     {
         let mut words = self;
         let mut count = 0;
-        while words.next().is_ok() {
+        while !words.next().is_empty() {
             count += 1;
         }
         count
     }
 
-    // The next word's part of the line; a line with no word left is refused.
-    fn next(&mut self) -> Result<&'a [u8], Fault>
-        ensures cases { λ r. ⌜ Cases r (λ w. left (now (self .entry)) ≡ now w ∷ left (now (self .exit))) (λ e. (e ≡ Form) × (left (now (self .entry)) ≡ [])) ⌝ }
-        ensures less { λ r. ⌜ Cases r (λ w. length (now (now (self .exit) .rest)) < length (now (now (self .entry) .rest))) (λ e. Unit {0}) ⌝ }
+    // The next word's part of the line, which is empty where no word is left.
+    fn next(&mut self) -> &'a [u8]
+        ensures handed { λ r. ⌜ Handed (now (self .entry)) (now (self .exit)) (now r) ⌝ }
+        ensures none { λ r. ⌜ (length (now r) ≡ 0 → left (now (self .entry)) ≡ []) ⌝ }
+        ensures less { λ r. ⌜ (0 < length (now r) → (0 < length (left (now (self .entry)))) × (length (now (now (self .exit) .rest)) < length (now (now (self .entry) .rest)))) ⌝ }
     {
         let rest = past_spaces(self.rest);
-        if rest.is_empty() {
-            return Err(Fault::Form);
-        }
         let (word, after) = rest.split_at(word_len(rest));
         self.rest = after;
-        Ok(word)
+        word
     }
 }
 

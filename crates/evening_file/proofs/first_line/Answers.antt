@@ -1,3 +1,4 @@
+-- The bytes before the first LF: none of the bytes passed is one.
 use mathlib.Core.Path.{sym, _∙_}
 use native.Mathlib.Omega.{arith}
 use Rattle.evening_file.specs.Lines.{upTo}

@@ -1,3 +1,4 @@
+-- What the bytes passed give, with what is still to come.
 use mathlib.Core.Path.{_≡_}
 use Rattle.evening_file.specs.Lines.{upTo}
 use Rattle.evening_file.proofs.LineEnd.{past}

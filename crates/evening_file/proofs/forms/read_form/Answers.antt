@@ -1,3 +1,4 @@
+-- Each arm's letter picks the form whose function it calls.
 use borrow.Author.Needs.{needs}
 use Rattle.evening_file.proofs.Lettered.{lettered, unlettered}
 use Rattle.evening_file.proofs.forms.read_form.Needs as need

@@ -1,3 +1,4 @@
+-- The losses read so far stand in the first places.
 use Prim.Native.Nat.{_+_}
 use mathlib.Core.Path.{_≡_}
 use lib.ListN.{length}

@@ -1,11 +1,8 @@
+-- The value grows by one digit a turn and stays below 10 ^ 12.
 use Prim.Native.Nat.{_^_, _<_}
-use mathlib.Core.Path.{_≡_, sym, ap, _∙_}
+use mathlib.Core.Path.{sym, _∙_}
 use native.Mathlib.Omega.{arith}
 use borrow.Author.Needs.{needs}
-use Rattle.std.specs.Options.{okOr}
-use Rattle.std.specs.declared.result.Result.the-variants.{Ok, Err}
-use Rattle.std.proofs.shelf.Tests.{eqb-false}
-use Rattle.evening_file.specs.declared.fault.Fault.the-variants.{Number}
 use Rattle.evening_file.proofs.Digits.{below-more, below-at, digits-more, value-more, no-number, all-digits}
 use Rattle.evening_file.proofs.numbers.digits_value.Needs as need
 
@@ -16,11 +13,9 @@ mul-value c =
 
 pub returns-in-Break-value : need.returns-in-Break-value
 returns-in-Break-value c =
-    let refused = no-number _ _ (c .loop-byte-test .taken) (c .loop-byte .inv .1) (c .in-Break-value .ensures tt .1) in
-    let err : c .from-residual .result ≡ Err Number = search needs in
     record {
-      value = err ∙ sym (ap (λ o. okOr o Number) refused);
-      bound = search needs;
+      value = c .from-residual .ensures ∙ sym (no-number _ _ (c .loop-byte-test .taken) (c .loop-byte .inv .1) (c .in-Break-value .ensures tt));
+      bound = rw (c .from-residual .ensures) tt;
     }
 
 pub add-value : need.add-value
@@ -41,6 +36,6 @@ loop-byte-again c =
 pub returns : need.returns
 returns c =
     record {
-      value = sym (ap (λ o. okOr o Number) (all-digits _ _ _ (omega arith) (search needs) (c .if-digits-gt-MAX-DIGITS .left) (c .loop-byte .inv .1) (c .loop-byte .inv .2)));
+      value = sym (all-digits _ _ _ (omega arith) (search needs) (c .if-digits-gt-MAX-DIGITS .left) (c .loop-byte .inv .1) (c .loop-byte .inv .2));
       bound = below-at _ _ 12 (c .loop-byte .inv .0) (omega arith);
     }

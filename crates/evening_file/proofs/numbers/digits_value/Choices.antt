@@ -1,3 +1,4 @@
+-- The value of the digits passed, with those still to come, is that of them all.
 use Prim.Native.Nat.{_<_, _^_}
 use mathlib.Core.Path.{_≡_}
 use lib.ListN.{drop}

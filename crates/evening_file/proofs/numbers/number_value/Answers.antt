@@ -1,3 +1,4 @@
+-- A word with a minus in front, and one without.
 use borrow.Author.Needs.{needs}
 use Rattle.evening_file.proofs.Digits.{number-minus, number-plain}
 use Rattle.evening_file.proofs.numbers.number_value.Needs as need

@@ -1,3 +1,4 @@
+-- A space passed leaves the words as they are.
 use mathlib.Core.Path.{_≡_, _∙_}
 use Prim.Native.Nat.{_<_}
 use native.Mathlib.Omega.{arith}

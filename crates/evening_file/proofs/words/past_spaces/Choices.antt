@@ -1,3 +1,4 @@
+-- What is left has the words of the whole.
 use Prim.Native.Nat.{_≤_}
 use mathlib.Core.Path.{_≡_}
 use lib.ListN.{length}

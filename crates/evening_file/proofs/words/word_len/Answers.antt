@@ -1,3 +1,4 @@
+-- A space or the end of the line ends the word.
 use mathlib.Core.Path.{refl, sym, _∙_}
 use native.Mathlib.Omega.{arith}
 use lib.ListN.{length, getD, take}

@@ -1,3 +1,4 @@
+-- The bytes passed are the beginning of the first word.
 use mathlib.Core.Path.{_≡_}
 use lib.ListN.{take, drop}
 use Rattle.evening_file.specs.Words.{words, wordsOn}

@@ -1,3 +1,4 @@
+-- The words counted and those left make up all of them.
 use Prim.Native.Nat.{_+_, _≤_}
 use mathlib.Core.Path.{_≡_}
 use lib.ListN.{length}
