@@ -14,8 +14,8 @@ use Rattle.std.specs.declared.result.Result.{Result}
 use Rattle.std.specs.declared.result.Result.the-variants.{Ok, Err}
 use Rattle.std.proofs.shelf.Tests.{both-ways, cases-bool, cond-true, cond-false, and-parts, not-true}
 use Rattle.ordered.specs.Files.{left}
-use Rattle.directory.specs.declared.fault.Fault.{Fault}
-use Rattle.directory.specs.declared.fault.Fault.the-variants.{Form, Present, Full, Missing}
+use Rattle.terms.specs.declared.faults.DirectoryFault.{DirectoryFault}
+use Rattle.terms.specs.declared.faults.DirectoryFault.the-variants.{Form, Present, Full, Missing}
 use Rattle.directory.specs.Codes.{wellFormed, precedes}
 use Rattle.directory.specs.Entries.{Listed, same, numberIn, with, entering, finding}
 use Rattle.directory.specs.Promise.{accepted, filled}

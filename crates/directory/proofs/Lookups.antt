@@ -21,8 +21,8 @@ use Rattle.ordered.specs.declared.file.InsertFault.the-variants as ordered
 use Rattle.ordered.proofs.Order.{false-from-not, ascends-far}
 use Rattle.ordered.proofs.Places.{told-by-place}
 use Rattle.directory.specs.declared.code.Entry.{Entry}
-use Rattle.directory.specs.declared.fault.Fault.{Fault}
-use Rattle.directory.specs.declared.fault.Fault.the-variants.{Form, Present, Full, Missing}
+use Rattle.terms.specs.declared.faults.DirectoryFault.{DirectoryFault}
+use Rattle.terms.specs.declared.faults.DirectoryFault.the-variants.{Form, Present, Full, Missing}
 use Rattle.directory.specs.Codes.{wellFormed, precedes, textOf, earlier}
 use Rattle.directory.specs.Faults.{asFault}
 use Rattle.directory.specs.Entries.{Listed, listed, same, numberIn, with, entering, finding}
@@ -84,7 +84,7 @@ with-filed e (x ∷ xs) =
     [ true ↦ ap (λ l. listed x ∷ l) (with-filed e xs) | false ↦ refl ]
 
 -- the ordered file's outcome, as the directory tells it
-abbrev pub retold : Result (List Entry) InsertFault → Result (List Listed) Fault
+abbrev pub retold : Result (List Entry) InsertFault → Result (List Listed) DirectoryFault
 retold (Ok xs) = Ok (map listed xs)
 retold (Err e) = Err (asFault e)
 
@@ -101,7 +101,7 @@ entering-is n xs e up w =
     both false false = refl
 
 -- the answer to an insertion, as the directory tells it
-abbrev pub retoldAnswer : Result (Unit {0}) InsertFault → Result (Unit {0}) Fault
+abbrev pub retoldAnswer : Result (Unit {0}) InsertFault → Result (Unit {0}) DirectoryFault
 retoldAnswer (Ok u) = Ok u
 retoldAnswer (Err e) = Err (asFault e)
 

@@ -12,8 +12,8 @@ use Rattle.std.specs.declared.result.Result.the-variants.{Ok, Err}
 use Rattle.ordered.specs.Files.{inUse, room}
 use Rattle.directory.specs.declared.code.Entry.{Entry}
 use Rattle.directory.specs.declared.Directory.{Directory}
-use Rattle.directory.specs.declared.fault.Fault.{Fault}
-use Rattle.directory.specs.declared.fault.Fault.the-variants.{Form, Present, Full, Missing}
+use Rattle.terms.specs.declared.faults.DirectoryFault.{DirectoryFault}
+use Rattle.terms.specs.declared.faults.DirectoryFault.the-variants.{Form, Present, Full, Missing}
 use Rattle.directory.specs.Codes.{wellFormed, precedes, textOf}
 
 -- an entry as it is told: its code and its number
@@ -50,10 +50,10 @@ with one [] = one ∷ []
 with one (e ∷ es) = cond (precedes (e .code) (one .code)) (e ∷ with one es) (one ∷ (e ∷ es))
 
 -- entering a code: 1 another form, 2 there already, 3 all of the n entries in use
-abbrev pub entering : ℕ → List Listed → List ℕ → ℕ → Result (List Listed) Fault
+abbrev pub entering : ℕ → List Listed → List ℕ → ℕ → Result (List Listed) DirectoryFault
 entering n es c k =
     cond (wellFormed c) (cond (isSome (numberIn es c)) (Err Present) (cond (ltb (length es) n) (Ok (with (record { code = c; number = k }) es)) (Err Full))) (Err Form)
 
 -- finding a code: 1 another form, 4 no entry has it
-abbrev pub finding : List Listed → List ℕ → Result ℕ Fault
+abbrev pub finding : List Listed → List ℕ → Result ℕ DirectoryFault
 finding es c = cond (wellFormed c) (okOr (numberIn es c) Missing) (Err Form)

@@ -11,7 +11,7 @@ use Rattle.std.specs.Options.{isSome}
 use Rattle.std.specs.declared.result.Result.{Result}
 use Rattle.ordered.specs.Files.{left}
 use Rattle.directory.specs.declared.Directory.{Directory}
-use Rattle.directory.specs.declared.fault.Fault.{Fault}
+use Rattle.terms.specs.declared.faults.DirectoryFault.{DirectoryFault}
 use Rattle.directory.specs.Codes.{wellFormed}
 use Rattle.directory.specs.Entries.{Listed, entries, places, numberIn, entering, finding}
 
@@ -32,5 +32,5 @@ abbrev pub Goes-on : Directory → Directory → List ℕ → ℕ → Type 0
 Goes-on d d′ c k = (attempts : List Listed) → entries d ≡ filled (places d) attempts → entries d′ ≡ filled (places d′) (record { code = c; number = k } ∷ attempts)
 
 -- after any attempts on an empty directory, a look-up answers by the accepted ones alone
-abbrev pub Found-as-accepted : Directory → List ℕ → Result ℕ Fault → Type 0
+abbrev pub Found-as-accepted : Directory → List ℕ → Result ℕ DirectoryFault → Type 0
 Found-as-accepted d c r = (attempts : List Listed) → entries d ≡ filled (places d) attempts → r ≡ finding (accepted (places d) attempts) c

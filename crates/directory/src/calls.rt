@@ -6,14 +6,14 @@ ghost use mathlib.Core.List.{List, [], _∷_};
 ghost use lib.ListN.{length};
 ghost use Rattle.std.specs.Results.{isErr};
 ghost use Rattle.ordered.specs.Files.{told, left};
+ghost use Rattle.directory.specs.Faults.{asFault};
 ghost use Rattle.directory.specs.Entries.{Listed, entries, places, entering, finding};
 ghost use Rattle.directory.specs.Promise.{Goes-on, Found-as-accepted};
 use crate::Directory;
 use crate::code::ByCode;
 use crate::code::Code;
 use crate::code::Entry;
-use crate::fault::Fault;
-use crate::fault::FaultFromInsert;
+use terms::DirectoryFault;
 use ordered::InsertFault;
 use ordered::OrderedFile;
 
@@ -28,7 +28,7 @@ impl<'a> Directory<'a> {
     }
 
     // Enters a code with its number. Refused: 1 another form, 2 there already, 3 all entries in use.
-    pub fn enter(&mut self, code: &[u8], number: u32) -> Result<(), Fault>
+    pub fn enter(&mut self, code: &[u8], number: u32) -> Result<(), DirectoryFault>
         ensures answers { λ r. ⌜ r ≡ told (entering (places (now (self .entry))) (entries (now (self .entry))) (now (code .entry)) number) ⌝ }
         ensures items { λ _. ⌜ entries (now (self .exit)) ≡ left (entries (now (self .entry))) (entering (places (now (self .entry))) (entries (now (self .entry))) (now (code .entry)) number) ⌝ }
         ensures room { λ _. ⌜ places (now (self .exit)) ≡ places (now (self .entry)) ⌝ }
@@ -36,24 +36,26 @@ impl<'a> Directory<'a> {
         ensures attempts { λ _. ⌜ Goes-on (now (self .entry)) (now (self .exit)) (now (code .entry)) number ⌝ }
     {
         let Some(code) = Code::new(code) else {
-            return Err(Fault::Form);
+            return Err(DirectoryFault::Form);
         };
-        self.file.insert(Entry { code, number })?;
-        Ok(())
+        match self.file.insert(Entry { code, number }) {
+            Ok(()) => Ok(()),
+            Err(fault) => Err(as_fault(fault)),
+        }
     }
 
     // The number of a code. Refused: 1 another form, 4 no entry has it. After any sequence of entries, every code that was
     // accepted is found with its number and no other code is.
-    pub fn find(&self, code: &[u8]) -> Result<u32, Fault>
+    pub fn find(&self, code: &[u8]) -> Result<u32, DirectoryFault>
         ensures value { λ r. ⌜ r ≡ finding (entries (now (self .entry))) (now (code .entry)) ⌝ }
         ensures accepted { λ r. ⌜ Found-as-accepted (now (self .entry)) (now (code .entry)) r ⌝ }
     {
         let Some(code) = Code::new(code) else {
-            return Err(Fault::Form);
+            return Err(DirectoryFault::Form);
         };
         match self.file.find(&Entry { code, number: 0 }) {
             Ok(at) => Ok(self.file.used()[at].number),
-            Err(_) => Err(Fault::Missing),
+            Err(_) => Err(DirectoryFault::Missing),
         }
     }
 
@@ -62,5 +64,15 @@ impl<'a> Directory<'a> {
         ensures { λ r. ⌜ r ≡ length (entries (now (self .entry))) ⌝ }
     {
         self.file.used().len()
+    }
+}
+
+// What the ordered file refuses, as the directory tells it.
+fn as_fault(fault: InsertFault) -> DirectoryFault
+    ensures { λ r. ⌜ r ≡ asFault fault ⌝ }
+{
+    match fault {
+        InsertFault::Present => DirectoryFault::Present,
+        InsertFault::Full => DirectoryFault::Full,
     }
 }

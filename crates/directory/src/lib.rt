@@ -4,10 +4,8 @@ ghost use Rattle.directory.specs.Codes.{earlier};
 
 mod calls;
 mod code;
-mod fault;
 
 pub use code::Entry;
-pub use fault::Fault;
 use ordered::OrderedFile;
 
 // Codes with their numbers, each code at most once.

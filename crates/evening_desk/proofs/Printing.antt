@@ -9,7 +9,7 @@ use Rattle.std.specs.declared.alloc.AllocError.{AllocError}
 use Rattle.std.specs.declared.result.Result.{Result}
 use Rattle.std.specs.declared.result.Result.the-variants.{Ok, Err}
 use Rattle.ordered.specs.Files.{told, left}
-use Rattle.evening_desk.specs.declared.fault.LineFault.{LineFault}
+use Rattle.terms.specs.declared.faults.LineFault.{LineFault}
 use Rattle.evening_desk.specs.Evening.{Held, outcome, refusalText, printedOf, after, printed, Worked}
 
 -- a line that is carried out prints nothing

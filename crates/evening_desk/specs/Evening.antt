@@ -10,16 +10,16 @@ use Rattle.std.specs.declared.alloc.AllocError.{AllocError}
 use Rattle.std.specs.declared.result.Result.{Result}
 use Rattle.std.specs.declared.result.Result.the-variants.{Ok, Err}
 use Rattle.ordered.specs.Files.{left}
-use Rattle.directory.specs.declared.fault.Fault as directory
+use Rattle.terms.specs.declared.faults.DirectoryFault.{DirectoryFault}
 use Rattle.directory.specs.Entries.{Listed, entries, places, entering, finding}
-use Rattle.evening_file.specs.declared.fault.Fault as reader
+use Rattle.terms.specs.declared.faults.ReaderFault.{ReaderFault}
 use Rattle.evening_file.specs.Said.{Said}
 use Rattle.evening_file.specs.Said as said
 use Rattle.evening_file.specs.Lines.{lineSaid}
 use Rattle.evening_desk.specs.declared.desk.Desk.{Desk}
-use Rattle.evening_desk.specs.declared.fault.LineFault.{LineFault}
-use Rattle.evening_desk.specs.declared.fault.LineFault.the-variants.{Reader, Directory}
-use Rattle.evening_desk.specs.Faults.{faultText}
+use Rattle.terms.specs.declared.faults.LineFault.{LineFault}
+use Rattle.terms.specs.declared.faults.LineFault.the-variants.{Reader, Directory}
+use Rattle.terms.specs.Faults.{faultText}
 
 -- what the desk holds: the accounts with their numbers, and how many there may be
 pub record Held : Type 0 where
@@ -38,7 +38,7 @@ abbrev pub nextNumber : List Listed → ℕ
 nextNumber es = min (length es) 4294967295
 
 -- a refusal of the directory is the line's
-abbrev pub orDirectory : {X : Type 0} → Result X directory.Fault → Result X LineFault
+abbrev pub orDirectory : {X : Type 0} → Result X DirectoryFault → Result X LineFault
 orDirectory (Ok x) = Ok x
 orDirectory (Err e) = Err (Directory e)
 
@@ -72,7 +72,7 @@ carried h said.Close = Ok h
 carried h (said.Expiry code price) = Ok h
 
 -- a refusal of the reader is the line's
-abbrev pub unlessReader : Held → Result Said reader.Fault → Result Held LineFault
+abbrev pub unlessReader : Held → Result Said ReaderFault → Result Held LineFault
 unlessReader h (Ok s) = carried h s
 unlessReader h (Err e) = Err (Reader e)
 

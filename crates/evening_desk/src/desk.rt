@@ -11,10 +11,11 @@ ghost use Rattle.ordered.specs.Files.{told, left};
 ghost use Rattle.directory.specs.Entries.{entries, places, entering};
 ghost use Rattle.evening_file.specs.Said.{said};
 ghost use Rattle.evening_desk.specs.Evening.{held, nextNumber, account, newAccount, onward, carried, outcome, refusalText, Worked};
-use crate::fault::FromDirectory;
-use crate::fault::FromReader;
-use crate::fault::LineFault;
-use crate::fault::LineFaultDisplay;
+use terms::DirectoryFault;
+use terms::FromDirectory;
+use terms::FromReader;
+use terms::LineFault;
+use terms::LineFaultDisplay;
 use directory::Directory;
 use evening_file::Line;
 use evening_file::read;
@@ -111,7 +112,7 @@ impl<'d, 'a> Desk<'d, 'a> {
 }
 
 // Enters a code with the number of those that came before it.
-fn enter_next(accounts: &mut Directory<'_>, code: &[u8]) -> Result<(), directory::Fault>
+fn enter_next(accounts: &mut Directory<'_>, code: &[u8]) -> Result<(), DirectoryFault>
     ensures answers { λ r. ⌜ r ≡ told (entering (places (now (accounts .entry))) (entries (now (accounts .entry))) (now (code .entry)) (nextNumber (entries (now (accounts .entry))))) ⌝ }
     ensures items { λ _. ⌜ entries (now (accounts .exit)) ≡ left (entries (now (accounts .entry))) (entering (places (now (accounts .entry))) (entries (now (accounts .entry))) (now (code .entry)) (nextNumber (entries (now (accounts .entry))))) ⌝ }
     ensures room { λ _. ⌜ places (now (accounts .exit)) ≡ places (now (accounts .entry)) ⌝ }

@@ -1,6 +1,4 @@
 // The evening's desk: carries out one line of an evening file on the evening's state, and tells what is printed of it.
 mod desk;
-mod fault;
 
 pub use desk::Desk;
-pub use fault::LineFault;

@@ -9,14 +9,14 @@ use Rattle.std.proofs.shelf.Lists.{take-rest}
 use Rattle.std.proofs.shelf.Tests.{ne-eqb}
 use Rattle.std.specs.declared.result.Result.{Result}
 use Rattle.std.specs.declared.result.Result.the-variants.{Err}
-use Rattle.evening_file.specs.declared.fault.Fault.{Fault}
-use Rattle.evening_file.specs.declared.fault.Fault.the-variants.{Form}
+use Rattle.terms.specs.declared.faults.ReaderFault.{ReaderFault}
+use Rattle.terms.specs.declared.faults.ReaderFault.the-variants.{Form}
 use Rattle.evening_file.specs.Lines.{behind, byLetter, formed}
 use Rattle.evening_file.specs.Said.{Said}
 use Rattle.evening_file.specs.Words.{words, parted}
 
 -- what a form says behind the letter k is what the line says
-pub lettered : (k : ℕ) (line : List ℕ) {said : Result Said Fault} → 0 < length line → getD line 0 0 ≡ k → said ≡ behind (take (length line - 1) (drop 1 line)) (byLetter k) → said ≡ formed line
+pub lettered : (k : ℕ) (line : List ℕ) {said : Result Said ReaderFault} → 0 < length line → getD line 0 0 ≡ k → said ≡ behind (take (length line - 1) (drop 1 line)) (byLetter k) → said ≡ formed line
 unfolding formed
 lettered k [] h e is = absurd (omega arith)
 lettered k (c ∷ cs) h e is = is ∙ ap (λ l. behind l (byLetter k)) (take-rest (c ∷ cs) 1) ∙ ap (λ n. behind cs (byLetter n)) (sym e)
@@ -26,7 +26,7 @@ abbrev pub Other : ℕ → Type 0
 Other c =
     (c ≡ 65 → ⊥) × (c ≡ 67 → ⊥) × (c ≡ 70 → ⊥) × (c ≡ 79 → ⊥) × (c ≡ 78 → ⊥) × (c ≡ 88 → ⊥) × (c ≡ 84 → ⊥) × (c ≡ 80 → ⊥) × (c ≡ 68 → ⊥) × (c ≡ 69 → ⊥) × (c ≡ 77 → ⊥) × (c ≡ 82 → ⊥)
 
-either-way : (b : Bool) (x : Result Said Fault) → x ≡ cond b x x
+either-way : (b : Bool) (x : Result Said ReaderFault) → x ≡ cond b x x
 either-way true x = refl
 either-way false x = refl
 

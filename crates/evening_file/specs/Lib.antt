@@ -1,5 +1,4 @@
 -- What the lines of an evening file mean, and which of them are refused.
-pub mod Faults
 pub mod Letters
 pub mod Lines
 pub mod Numbers

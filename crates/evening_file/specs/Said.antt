@@ -6,7 +6,7 @@ use Rattle.std.specs.declared.result.Result.{Result}
 use Rattle.std.specs.declared.result.Result.the-variants.{Ok, Err}
 use Rattle.terms.specs.declared.Style.{Style}
 use Rattle.terms.specs.declared.RuleKind.{RuleKind}
-use Rattle.evening_file.specs.declared.fault.Fault.{Fault}
+use Rattle.terms.specs.declared.faults.ReaderFault.{ReaderFault}
 use Rattle.evening_file.specs.declared.line.Line.{Line}
 use Rattle.evening_file.specs.declared.line.Line.the-variants as line
 
@@ -41,6 +41,6 @@ said (line.Transfer from to) = Transfer (from .now) (to .now)
 said (line.Reading account) = Reading (account .now)
 
 -- what the reader answers
-abbrev pub seen : Result Line Fault → Result Said Fault
+abbrev pub seen : Result Line ReaderFault → Result Said ReaderFault
 seen (Ok l) = Ok (said l)
 seen (Err f) = Err f

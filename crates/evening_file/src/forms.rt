@@ -4,42 +4,42 @@ ghost use lib.ListN.{length};
 ghost use Rattle.evening_file.specs.Lines.{account, contract, future, numbers, option, minimum, rule, trade, price, close, expiry, transfer, reading, behind, formed};
 ghost use Rattle.evening_file.specs.Said.{seen};
 ghost use Rattle.evening_file.specs.Words.{left};
-use crate::fault::Fault;
+use terms::ReaderFault;
 use crate::line::LOSSES;
 use crate::line::Line;
 use crate::words::Words;
 
 // Reads `A account`.
-fn read_account<'a>(rest: &'a [u8]) -> Result<Line<'a>, Fault>
+fn read_account<'a>(rest: &'a [u8]) -> Result<Line<'a>, ReaderFault>
     ensures { λ r. ⌜ seen r ≡ behind (now (rest .entry)) account ⌝ }
 {
     let Some(mut words) = Words::after_letter(rest, 1) else {
-        return Err(Fault::Form);
+        return Err(ReaderFault::Form);
     };
     let account = words.text();
     Ok(Line::Account { account })
 }
 
 // Reads `C number code style volume expiry price haircut`; the style is looked at before the first number.
-fn read_contract<'a>(rest: &'a [u8]) -> Result<Line<'a>, Fault>
+fn read_contract<'a>(rest: &'a [u8]) -> Result<Line<'a>, ReaderFault>
     ensures { λ r. ⌜ seen r ≡ behind (now (rest .entry)) contract ⌝ }
 {
     let Some(mut words) = Words::after_letter(rest, 7) else {
-        return Err(Fault::Form);
+        return Err(ReaderFault::Form);
     };
     let listed = words.number();
     let code = words.text();
     let Some(style) = words.letter().style() else {
-        return Err(Fault::Form);
+        return Err(ReaderFault::Form);
     };
     let Some(number) = listed.value() else {
-        return Err(Fault::Number);
+        return Err(ReaderFault::Number);
     };
     let Some((volume, expiry)) = words.two_values() else {
-        return Err(Fault::Number);
+        return Err(ReaderFault::Number);
     };
     let Some((price, haircut)) = words.two_values() else {
-        return Err(Fault::Number);
+        return Err(ReaderFault::Number);
     };
     Ok(Line::Contract {
         number,
@@ -53,15 +53,15 @@ fn read_contract<'a>(rest: &'a [u8]) -> Result<Line<'a>, Fault>
 }
 
 // Reads `F code commodity range`.
-fn read_future<'a>(rest: &'a [u8]) -> Result<Line<'a>, Fault>
+fn read_future<'a>(rest: &'a [u8]) -> Result<Line<'a>, ReaderFault>
     ensures { λ r. ⌜ seen r ≡ behind (now (rest .entry)) future ⌝ }
 {
     let Some(mut words) = Words::after_letter(rest, 3) else {
-        return Err(Fault::Form);
+        return Err(ReaderFault::Form);
     };
     let code = words.text();
     let Some((commodity, range)) = words.two_values() else {
-        return Err(Fault::Number);
+        return Err(ReaderFault::Number);
     };
     Ok(Line::Future {
         code,
@@ -82,18 +82,18 @@ fn read_losses(words: &mut Words<'_>) -> Option<[i64; LOSSES]>
 }
 
 // Reads `O code commodity delta` and sixteen losses.
-fn read_option<'a>(rest: &'a [u8]) -> Result<Line<'a>, Fault>
+fn read_option<'a>(rest: &'a [u8]) -> Result<Line<'a>, ReaderFault>
     ensures { λ r. ⌜ seen r ≡ behind (now (rest .entry)) option ⌝ }
 {
     let Some(mut words) = Words::after_letter(rest, 3 + LOSSES) else {
-        return Err(Fault::Form);
+        return Err(ReaderFault::Form);
     };
     let code = words.text();
     let Some((commodity, delta)) = words.two_values() else {
-        return Err(Fault::Number);
+        return Err(ReaderFault::Number);
     };
     let Some(losses) = read_losses(&mut words) else {
-        return Err(Fault::Number);
+        return Err(ReaderFault::Number);
     };
     Ok(Line::Option {
         code,
@@ -104,33 +104,33 @@ fn read_option<'a>(rest: &'a [u8]) -> Result<Line<'a>, Fault>
 }
 
 // Reads `N commodity minimum`.
-fn read_minimum<'a>(rest: &'a [u8]) -> Result<Line<'a>, Fault>
+fn read_minimum<'a>(rest: &'a [u8]) -> Result<Line<'a>, ReaderFault>
     ensures { λ r. ⌜ seen r ≡ behind (now (rest .entry)) minimum ⌝ }
 {
     let Some(mut words) = Words::after_letter(rest, 2) else {
-        return Err(Fault::Form);
+        return Err(ReaderFault::Form);
     };
     let Some((commodity, minimum)) = words.two_values() else {
-        return Err(Fault::Number);
+        return Err(ReaderFault::Number);
     };
     Ok(Line::Minimum { commodity, minimum })
 }
 
 // Reads `X P|R commodity commodity credit`.
-fn read_rule<'a>(rest: &'a [u8]) -> Result<Line<'a>, Fault>
+fn read_rule<'a>(rest: &'a [u8]) -> Result<Line<'a>, ReaderFault>
     ensures { λ r. ⌜ seen r ≡ behind (now (rest .entry)) rule ⌝ }
 {
     let Some(mut words) = Words::after_letter(rest, 4) else {
-        return Err(Fault::Form);
+        return Err(ReaderFault::Form);
     };
     let Some(kind) = words.letter().rule_kind() else {
-        return Err(Fault::Form);
+        return Err(ReaderFault::Form);
     };
     let Some((first, second)) = words.two_values() else {
-        return Err(Fault::Number);
+        return Err(ReaderFault::Number);
     };
     let Some(credit) = words.value() else {
-        return Err(Fault::Number);
+        return Err(ReaderFault::Number);
     };
     Ok(Line::Rule {
         kind,
@@ -141,17 +141,17 @@ fn read_rule<'a>(rest: &'a [u8]) -> Result<Line<'a>, Fault>
 }
 
 // Reads `T buyer seller code lots price`.
-fn read_trade<'a>(rest: &'a [u8]) -> Result<Line<'a>, Fault>
+fn read_trade<'a>(rest: &'a [u8]) -> Result<Line<'a>, ReaderFault>
     ensures { λ r. ⌜ seen r ≡ behind (now (rest .entry)) trade ⌝ }
 {
     let Some(mut words) = Words::after_letter(rest, 5) else {
-        return Err(Fault::Form);
+        return Err(ReaderFault::Form);
     };
     let buyer = words.text();
     let seller = words.text();
     let code = words.text();
     let Some((lots, price)) = words.two_values() else {
-        return Err(Fault::Number);
+        return Err(ReaderFault::Number);
     };
     Ok(Line::Trade {
         buyer,
@@ -163,49 +163,49 @@ fn read_trade<'a>(rest: &'a [u8]) -> Result<Line<'a>, Fault>
 }
 
 // Reads `P code price`.
-fn read_price<'a>(rest: &'a [u8]) -> Result<Line<'a>, Fault>
+fn read_price<'a>(rest: &'a [u8]) -> Result<Line<'a>, ReaderFault>
     ensures { λ r. ⌜ seen r ≡ behind (now (rest .entry)) price ⌝ }
 {
     let Some(mut words) = Words::after_letter(rest, 2) else {
-        return Err(Fault::Form);
+        return Err(ReaderFault::Form);
     };
     let code = words.text();
     let Some(price) = words.value() else {
-        return Err(Fault::Number);
+        return Err(ReaderFault::Number);
     };
     Ok(Line::Price { code, price })
 }
 
 // Reads `D`.
-fn read_close<'a>(rest: &'a [u8]) -> Result<Line<'a>, Fault>
+fn read_close<'a>(rest: &'a [u8]) -> Result<Line<'a>, ReaderFault>
     ensures { λ r. ⌜ seen r ≡ behind (now (rest .entry)) close ⌝ }
 {
     let Some(_) = Words::after_letter(rest, 0) else {
-        return Err(Fault::Form);
+        return Err(ReaderFault::Form);
     };
     Ok(Line::Close)
 }
 
 // Reads `E code price`.
-fn read_expiry<'a>(rest: &'a [u8]) -> Result<Line<'a>, Fault>
+fn read_expiry<'a>(rest: &'a [u8]) -> Result<Line<'a>, ReaderFault>
     ensures { λ r. ⌜ seen r ≡ behind (now (rest .entry)) expiry ⌝ }
 {
     let Some(mut words) = Words::after_letter(rest, 2) else {
-        return Err(Fault::Form);
+        return Err(ReaderFault::Form);
     };
     let code = words.text();
     let Some(price) = words.value() else {
-        return Err(Fault::Number);
+        return Err(ReaderFault::Number);
     };
     Ok(Line::Expiry { code, price })
 }
 
 // Reads `M from to`.
-fn read_transfer<'a>(rest: &'a [u8]) -> Result<Line<'a>, Fault>
+fn read_transfer<'a>(rest: &'a [u8]) -> Result<Line<'a>, ReaderFault>
     ensures { λ r. ⌜ seen r ≡ behind (now (rest .entry)) transfer ⌝ }
 {
     let Some(mut words) = Words::after_letter(rest, 2) else {
-        return Err(Fault::Form);
+        return Err(ReaderFault::Form);
     };
     let from = words.text();
     let to = words.text();
@@ -213,18 +213,18 @@ fn read_transfer<'a>(rest: &'a [u8]) -> Result<Line<'a>, Fault>
 }
 
 // Reads `R account`.
-fn read_reading<'a>(rest: &'a [u8]) -> Result<Line<'a>, Fault>
+fn read_reading<'a>(rest: &'a [u8]) -> Result<Line<'a>, ReaderFault>
     ensures { λ r. ⌜ seen r ≡ behind (now (rest .entry)) reading ⌝ }
 {
     let Some(mut words) = Words::after_letter(rest, 1) else {
-        return Err(Fault::Form);
+        return Err(ReaderFault::Form);
     };
     let account = words.text();
     Ok(Line::Reading { account })
 }
 
 // Reads a line by the form that its letter begins.
-pub(crate) fn read_form<'a>(line: &'a [u8]) -> Result<Line<'a>, Fault>
+pub(crate) fn read_form<'a>(line: &'a [u8]) -> Result<Line<'a>, ReaderFault>
     ensures { λ r. ⌜ seen r ≡ formed (now (line .entry)) ⌝ }
 {
     match line {
@@ -240,6 +240,6 @@ pub(crate) fn read_form<'a>(line: &'a [u8]) -> Result<Line<'a>, Fault>
         [b'E', rest @ ..] => read_expiry(rest),
         [b'M', rest @ ..] => read_transfer(rest),
         [b'R', rest @ ..] => read_reading(rest),
-        _ => Err(Fault::Form),
+        _ => Err(ReaderFault::Form),
     }
 }

@@ -4,13 +4,12 @@ ghost use Rattle.std.specs.Options.{mapped};
 ghost use Rattle.evening_file.specs.Lines.{upTo, lineSaid};
 ghost use Rattle.evening_file.specs.Said.{seen};
 
-mod fault;
 mod forms;
 mod line;
 mod numbers;
 mod words;
 
-pub use fault::Fault;
+use terms::ReaderFault;
 use forms::read_form;
 pub use line::Line;
 
@@ -30,14 +29,14 @@ fn first_line<'a>(input: &'a [u8]) -> Option<&'a [u8]>
 }
 
 // Reads one line, up to the first line feed of `input`; refuses it by its length, then by its form, then by a number.
-pub fn read<'a>(input: &'a [u8]) -> Result<Line<'a>, Fault>
+pub fn read<'a>(input: &'a [u8]) -> Result<Line<'a>, ReaderFault>
     ensures { λ r. ⌜ seen r ≡ lineSaid (now (input .entry)) ⌝ }
 {
     let Some(line) = first_line(input) else {
-        return Err(Fault::Length);
+        return Err(ReaderFault::Length);
     };
     if line.len() > MAX_LINE {
-        return Err(Fault::Length);
+        return Err(ReaderFault::Length);
     }
     read_form(line)
 }

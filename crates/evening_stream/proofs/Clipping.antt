@@ -15,7 +15,7 @@ use Rattle.std.specs.declared.result.Result.the-variants.{Ok, Err}
 use Rattle.std.proofs.shelf.Lists.{take-take}
 use Rattle.std.proofs.shelf.Tests.{cases-bool, cond-false, lt-leb}
 use Rattle.ordered.specs.Files.{left}
-use Rattle.evening_file.specs.declared.fault.Fault.the-variants.{Length}
+use Rattle.terms.specs.declared.faults.ReaderFault.the-variants.{Length}
 use Rattle.evening_file.specs.Lines.{upTo, fitting, lineSaid}
 use Rattle.evening_desk.specs.Evening.{Held, unlessReader, printedOf, after, printed}
 use Rattle.evening_stream.specs.Input.{State, next, clipped, ended, endedSays}

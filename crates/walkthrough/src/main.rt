@@ -1,8 +1,8 @@
 // Works one task with the directory and prints what it did: a delivery area whose codes all begin with the same eight letters.
 use directory::Directory;
 use directory::Entry;
-use directory::Fault;
 use std::io;
+use terms::DirectoryFault;
 
 // How many contracts the delivery area has, and how many entries the directory.
 const CONTRACTS: u8 = 64;
@@ -16,7 +16,7 @@ fn code_of(n: u8) -> [u8; 10] {
 }
 
 // Enters every contract with its number.
-fn enter_all(contracts: &mut Directory<'_>) -> Result<(), Fault> {
+fn enter_all(contracts: &mut Directory<'_>) -> Result<(), DirectoryFault> {
     for n in 0..CONTRACTS {
         contracts.enter(&code_of(n), u32::from(n))?;
     }
@@ -36,7 +36,7 @@ fn count_found(contracts: &Directory<'_>) -> u32 {
 }
 
 // Prints what a call that was to be refused answered.
-fn tell(rt: &LibcRuntime, what: &str, answer: Result<u32, Fault>) -> io::Result<()> {
+fn tell(rt: &LibcRuntime, what: &str, answer: Result<u32, DirectoryFault>) -> io::Result<()> {
     match answer {
         Ok(number) => println!(rt, "{what}: number {number}"),
         Err(fault) => {
@@ -47,7 +47,7 @@ fn tell(rt: &LibcRuntime, what: &str, answer: Result<u32, Fault>) -> io::Result<
 }
 
 // Enters a code and answers the number that it was given.
-fn enter(contracts: &mut Directory<'_>, code: &[u8], number: u32) -> Result<u32, Fault> {
+fn enter(contracts: &mut Directory<'_>, code: &[u8], number: u32) -> Result<u32, DirectoryFault> {
     contracts.enter(code, number)?;
     Ok(number)
 }

@@ -1,6 +1,5 @@
 use mathlib.Core.Path.{_≡_, refl, sym, ap, subst, _∙_}
 use borrow.Author.Needs.{needs}
-use Rattle.std.proofs.shelf.Results.{err-from-errBy}
 use Rattle.std.specs.declared.result.Result.the-variants.{Ok, Err}
 use Rattle.directory.specs.declared.code.Entry.{Entry}
 use Rattle.directory.specs.Entries.{Listed, entries, places}
@@ -9,32 +8,31 @@ use Rattle.directory.proofs.Lookups.{retoldAnswer, entered, answered}
 use Rattle.directory.proofs.Attempts.{goes-on}
 use Rattle.directory.proofs.Directory.enter.Needs as need
 
-pub returns-in-Break-insert : need.returns-in-Break-insert
-returns-in-Break-insert c =
+pub returns-in-Err : need.returns-in-Err
+returns-in-Err c =
     let d = c .args .self .now in
     let e : Entry = record { code = c .in-Some .code; number = c .args .number } in
     let formed = c .in-Some .ensures tt in
     let after = entered (d .file) e (c .args .code .now) (formed .1) (formed .0) (d .ascends) (c .insert .last .self) (c .insert .ensures .items (d .sized) (d .ascends)) in
-    let p = err-from-errBy (c .from-residual .result) (c .from-residual .ensures .1) in
     record {
       answers =
-          p .1 ∙ ap Err (p .2) ∙ sym (ap retoldAnswer (c .in-Break-insert .was tt))
+          ap Err (c .as-fault .ensures) ∙ sym (ap retoldAnswer (c .in-Err .is))
           ∙ answered (d .file) e (c .args .code .now) (formed .1) (formed .0) (d .ascends) (c .insert .result) (c .insert .ensures .answers (d .sized) (d .ascends));
       items = after;
       room = c .insert .ensures .memory;
-      same = λ _. c .in-Break-insert .ensures tt .same refl;
+      same = λ _. c .in-Err .ensures tt .same refl;
       attempts = goes-on (places d) _ (entries d) _ (record { code = c .args .code .now; number = c .args .number }) (c .insert .ensures .memory) after;
     }
 
-pub returns : need.returns
-returns c =
+pub returns-in-Ok : need.returns-in-Ok
+returns-in-Ok c =
     let d = c .args .self .now in
     let e : Entry = record { code = c .in-Some .code; number = c .args .number } in
     let formed = c .in-Some .ensures tt in
     let after = entered (d .file) e (c .args .code .now) (formed .1) (formed .0) (d .ascends) (c .insert .last .self) (c .insert .ensures .items (d .sized) (d .ascends)) in
     record {
       answers =
-          sym (ap retoldAnswer (c .in-Continue-insert .was tt))
+          sym (ap retoldAnswer (c .in-Ok .is))
           ∙ answered (d .file) e (c .args .code .now) (formed .1) (formed .0) (d .ascends) (c .insert .result) (c .insert .ensures .answers (d .sized) (d .ascends));
       items = after;
       room = c .insert .ensures .memory;
