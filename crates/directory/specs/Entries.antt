@@ -10,6 +10,7 @@ use Rattle.std.specs.declared.option.Option.the-variants.{Some, None}
 use Rattle.std.specs.declared.result.Result.{Result}
 use Rattle.std.specs.declared.result.Result.the-variants.{Ok, Err}
 use Rattle.ordered.specs.Files.{inUse, room}
+use Rattle.ordered.specs.declared.file.OrderedFile.{OrderedFile}
 use Rattle.directory.specs.declared.code.Entry.{Entry}
 use Rattle.directory.specs.declared.Directory.{Directory}
 use Rattle.terms.specs.declared.faults.DirectoryFault.{DirectoryFault}
@@ -27,6 +28,10 @@ listed e = record { code = textOf e; number = e .number }
 -- all entries, in the order of their codes
 abbrev pub entries : Directory → List Listed
 entries d = map listed (inUse (d .file))
+
+-- the entries with all of the memory behind them
+abbrev pub stored : Directory → OrderedFile Entry
+stored d = d .file
 
 -- how many entries there is room for
 abbrev pub places : Directory → ℕ

@@ -7,15 +7,15 @@ ghost use lib.ListN.{length};
 ghost use Rattle.std.specs.Results.{isErr};
 ghost use Rattle.ordered.specs.Files.{told, left};
 ghost use Rattle.directory.specs.Faults.{asFault};
-ghost use Rattle.directory.specs.Entries.{Listed, entries, places, entering, finding};
+ghost use Rattle.directory.specs.Entries.{entries, stored, places, entering, finding};
 ghost use Rattle.directory.specs.Promise.{Goes-on, Found-as-accepted};
 use crate::Directory;
 use crate::code::ByCode;
 use crate::code::Code;
 use crate::code::Entry;
-use terms::DirectoryFault;
 use ordered::InsertFault;
 use ordered::OrderedFile;
+use terms::DirectoryFault;
 
 impl<'a> Directory<'a> {
     // An empty directory with as many entries as the memory holds.
@@ -32,7 +32,7 @@ impl<'a> Directory<'a> {
         ensures answers { λ r. ⌜ r ≡ told (entering (places (now (self .entry))) (entries (now (self .entry))) (now (code .entry)) number) ⌝ }
         ensures items { λ _. ⌜ entries (now (self .exit)) ≡ left (entries (now (self .entry))) (entering (places (now (self .entry))) (entries (now (self .entry))) (now (code .entry)) number) ⌝ }
         ensures room { λ _. ⌜ places (now (self .exit)) ≡ places (now (self .entry)) ⌝ }
-        ensures same { λ r. ⌜ (isErr r ≡ true → now (self .exit) .file ≡ now (self .entry) .file) ⌝ }
+        ensures same { λ r. ⌜ (isErr r ≡ true → stored (now (self .exit)) ≡ stored (now (self .entry))) ⌝ }
         ensures attempts { λ _. ⌜ Goes-on (now (self .entry)) (now (self .exit)) (now (code .entry)) number ⌝ }
     {
         let Some(code) = Code::new(code) else {

@@ -2,9 +2,10 @@
 use Prim.Native.Nat.{ℕ}
 use mathlib.Core.Path.{_≡_, refl, sym, ap, subst, _∙_}
 use native.Mathlib.Omega.{arith}
-use mathlib.Core.Bool.{cond}
+use mathlib.Core.Bool.{true, cond}
 use mathlib.Core.List.{List, [], _++_, append-nil}
-use Rattle.std.specs.Results.{isOk}
+use Rattle.std.specs.Results.{isOk, isErr}
+use Rattle.std.proofs.shelf.Tests.{false≢true}
 use Rattle.std.specs.declared.alloc.AllocError.{AllocError}
 use Rattle.std.specs.declared.result.Result.{Result}
 use Rattle.std.specs.declared.result.Result.the-variants.{Ok, Err}
@@ -35,3 +36,8 @@ pub worked-refused : (h h′ : Held) (n : ℕ) (line out text out′ : List ℕ)
 unfolding after printed
 worked-refused h h′ n line out text out′ f (Ok u) e a t o = (a, o ∙ ap (λ s. out ++ s) (t ∙ sym (printed-err n (outcome h line) f e)))
 worked-refused h h′ n line out text out′ f (Err m) e a t o = (a ∙ left-err h (outcome h line) f e, o)
+
+-- a line that is carried out is not refused
+pub not-refused : (o : Result Held LineFault) → Ok tt ≡ told o → isErr o ≡ true → ⊥
+not-refused (Ok h) e r = false≢true r
+not-refused (Err f) e r = grind arith

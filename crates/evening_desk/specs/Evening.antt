@@ -10,8 +10,10 @@ use Rattle.std.specs.declared.alloc.AllocError.{AllocError}
 use Rattle.std.specs.declared.result.Result.{Result}
 use Rattle.std.specs.declared.result.Result.the-variants.{Ok, Err}
 use Rattle.ordered.specs.Files.{left}
+use Rattle.ordered.specs.declared.file.OrderedFile.{OrderedFile}
+use Rattle.directory.specs.declared.code.Entry.{Entry}
 use Rattle.terms.specs.declared.faults.DirectoryFault.{DirectoryFault}
-use Rattle.directory.specs.Entries.{Listed, entries, places, entering, finding}
+use Rattle.directory.specs.Entries.{Listed, entries, stored, places, entering, finding}
 use Rattle.terms.specs.declared.faults.ReaderFault.{ReaderFault}
 use Rattle.evening_file.specs.Said.{Said}
 use Rattle.evening_file.specs.Said as said
@@ -28,6 +30,10 @@ pub record Held : Type 0 where
 
 abbrev pub held : Desk → Held
 held d = record { accounts = entries (now (d .accounts)); most = places (now (d .accounts)) }
+
+-- the memory behind what the desk holds
+abbrev pub memory : Desk → OrderedFile Entry
+memory d = stored (now (d .accounts))
 
 -- the desk with other accounts
 abbrev pub withAccounts : Held → List Listed → Held

@@ -1,26 +1,25 @@
 // The desk: the evening's state, and one line carried out on it.
-ghost use Prim.Native.Nat.{ℕ};
 ghost use mathlib.Core.Path.{_≡_};
-ghost use mathlib.Core.List.{_++_};
+ghost use mathlib.Core.Bool.{true};
 ghost use Rattle.std.specs.Of.Vec.{vec-items};
 ghost use Rattle.std.specs.Of.String.{string-bytes};
-ghost use Rattle.std.specs.Results.{Cases};
+ghost use Rattle.std.specs.Results.{isErr};
 ghost use Rattle.std.specs.Vec.{made};
 ghost use Rattle.std.specs.declared.result.Result.the-variants.{Ok};
 ghost use Rattle.ordered.specs.Files.{told, left};
-ghost use Rattle.directory.specs.Entries.{entries, places, entering};
+ghost use Rattle.directory.specs.Entries.{entries, stored, places, entering};
 ghost use Rattle.evening_file.specs.Said.{said};
-ghost use Rattle.evening_desk.specs.Evening.{held, nextNumber, account, newAccount, onward, carried, outcome, refusalText, Worked};
-use terms::DirectoryFault;
-use terms::FromDirectory;
-use terms::FromReader;
-use terms::LineFault;
-use terms::LineFaultDisplay;
+ghost use Rattle.evening_desk.specs.Evening.{held, memory, nextNumber, account, newAccount, onward, carried, outcome, refusalText, Worked};
 use directory::Directory;
 use evening_file::Line;
 use evening_file::read;
 use std::alloc::AllocError;
 use std::alloc::Global;
+use terms::DirectoryFault;
+use terms::FromDirectory;
+use terms::FromReader;
+use terms::LineFault;
+use terms::LineFaultDisplay;
 
 // What an evening works on. Each part is lent by whoever holds it.
 #[derive(Drop)]
@@ -45,7 +44,8 @@ impl<'d, 'a> Desk<'d, 'a> {
         line: &[u8],
         out: &mut Vec<u8>,
     ) -> Result<(), AllocError>
-        ensures { λ r. ⌜ Worked (held (now (self .entry))) number (now (line .entry)) (vec-items (now (out .entry))) r (held (now (self .exit))) (vec-items (now (out .exit))) ⌝ }
+        ensures value { λ r. ⌜ Worked (held (now (self .entry))) number (now (line .entry)) (vec-items (now (out .entry))) r (held (now (self .exit))) (vec-items (now (out .exit))) ⌝ }
+        ensures memory { λ _. ⌜ (isErr (outcome (held (now (self .entry))) (now (line .entry))) ≡ true → memory (now (self .exit)) ≡ memory (now (self .entry))) ⌝ }
     {
         match self.read_and_carry_out(line) {
             Ok(()) => Ok(()),
@@ -60,6 +60,7 @@ impl<'d, 'a> Desk<'d, 'a> {
     fn read_and_carry_out(&mut self, line: &[u8]) -> Result<(), LineFault>
         ensures answers { λ r. ⌜ r ≡ told (outcome (held (now (self .entry))) (now (line .entry))) ⌝ }
         ensures after { λ _. ⌜ held (now (self .exit)) ≡ left (held (now (self .entry))) (outcome (held (now (self .entry))) (now (line .entry))) ⌝ }
+        ensures memory { λ r. ⌜ (isErr r ≡ true → memory (now (self .exit)) ≡ memory (now (self .entry))) ⌝ }
     {
         self.carry_out(read(line)?)
     }
@@ -75,6 +76,7 @@ impl<'d, 'a> Desk<'d, 'a> {
     fn enter_account(&mut self, word: &[u8]) -> Result<(), LineFault>
         ensures answers { λ r. ⌜ r ≡ told (newAccount (held (now (self .entry))) (now (word .entry))) ⌝ }
         ensures after { λ _. ⌜ held (now (self .exit)) ≡ left (held (now (self .entry))) (newAccount (held (now (self .entry))) (now (word .entry))) ⌝ }
+        ensures memory { λ r. ⌜ (isErr r ≡ true → memory (now (self .exit)) ≡ memory (now (self .entry))) ⌝ }
     {
         enter_next(self.accounts, word)?;
         Ok(())
@@ -84,6 +86,7 @@ impl<'d, 'a> Desk<'d, 'a> {
     fn carry_out(&mut self, line: Line<'_>) -> Result<(), LineFault>
         ensures answers { λ r. ⌜ r ≡ told (carried (held (now (self .entry))) (said (line .entry))) ⌝ }
         ensures after { λ _. ⌜ held (now (self .exit)) ≡ left (held (now (self .entry))) (carried (held (now (self .entry))) (said (line .entry))) ⌝ }
+        ensures memory { λ r. ⌜ (isErr r ≡ true → memory (now (self .exit)) ≡ memory (now (self .entry))) ⌝ }
     {
         match line {
             Line::Account { account } => self.enter_account(account),
@@ -116,6 +119,7 @@ fn enter_next(accounts: &mut Directory<'_>, code: &[u8]) -> Result<(), Directory
     ensures answers { λ r. ⌜ r ≡ told (entering (places (now (accounts .entry))) (entries (now (accounts .entry))) (now (code .entry)) (nextNumber (entries (now (accounts .entry))))) ⌝ }
     ensures items { λ _. ⌜ entries (now (accounts .exit)) ≡ left (entries (now (accounts .entry))) (entering (places (now (accounts .entry))) (entries (now (accounts .entry))) (now (code .entry)) (nextNumber (entries (now (accounts .entry))))) ⌝ }
     ensures room { λ _. ⌜ places (now (accounts .exit)) ≡ places (now (accounts .entry)) ⌝ }
+    ensures same { λ r. ⌜ (isErr r ≡ true → stored (now (accounts .exit)) ≡ stored (now (accounts .entry))) ⌝ }
 {
     let number = accounts.len().min(u32::MAX as usize) as u32;
     accounts.enter(code, number)

@@ -4,10 +4,10 @@ ghost use lib.ListN.{length};
 ghost use Rattle.evening_file.specs.Lines.{account, contract, future, numbers, option, minimum, rule, trade, price, close, expiry, transfer, reading, behind, formed};
 ghost use Rattle.evening_file.specs.Said.{seen};
 ghost use Rattle.evening_file.specs.Words.{left};
-use terms::ReaderFault;
 use crate::line::LOSSES;
 use crate::line::Line;
 use crate::words::Words;
+use terms::ReaderFault;
 
 // Reads `A account`.
 fn read_account<'a>(rest: &'a [u8]) -> Result<Line<'a>, ReaderFault>

@@ -9,9 +9,9 @@ mod line;
 mod numbers;
 mod words;
 
-use terms::ReaderFault;
 use forms::read_form;
 pub use line::Line;
+use terms::ReaderFault;
 
 // How many bytes may stand before a line's end.
 const MAX_LINE: usize = 400;

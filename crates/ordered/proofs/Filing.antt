@@ -165,26 +165,34 @@ one-element [] e = absurd (omega arith)
 one-element (x ∷ []) e = (x, refl)
 one-element (x ∷ (y ∷ xs)) e = absurd (omega arith)
 
+-- one written over the first of what stands behind a front
+written-over : {T : Type 0} (p q post : List T) (z one : T) (at count : ℕ) → length p ≡ at → length q ≡ count - at → at ≤ count → take (count + 1) (set (p ++ ((z ∷ q) ++ post)) at one) ≡ p ++ (one ∷ q)
+written-over p q post z one at count front behind l =
+    let whole : length (p ++ (one ∷ q)) ≡ count + 1 = length-append p (one ∷ q) ∙ omega arith in
+    let grouped : p ++ (one ∷ (q ++ post)) ≡ (p ++ (one ∷ q)) ++ post = sym (append-assoc p (one ∷ q) post) in
+    ap (take (count + 1)) (set-at p z (q ++ post) one at front ∙ grouped) ∙ take-at (p ++ (one ∷ q)) post (count + 1) whole
+
+-- a list turned by one, its last element first
+turned-by-one : {T : Type 0} (part q : List T) (n : ℕ) → length part ≡ n + 1 → take n part ≡ q → (z : T) × (drop (length part - 1) part ++ take (length part - 1) part ≡ z ∷ q)
+turned-by-one part q n long rest =
+    let last = one-element (drop (length part - 1) part) (length-drop (length part - 1) part ∙ omega arith) in
+    let shorter : length part - 1 ≡ n = omega arith in
+    (last .0, (λ i. last .1 i ++ take (shorter i) part) ∙ ap (λ t. last .0 ∷ t) rest)
+
 -- the records from `at` to `count` turned by one, and one written over the first
 pub put-in : {T : Type 0} (xs : List T) (at count : ℕ) (one : T) (ys : List T) → at ≤ count → count < length xs
     → ys ≡ drop (length (take (count + 1 - at) (drop at xs)) - 1) (take (count + 1 - at) (drop at xs)) ++ take (length (take (count + 1 - at) (drop at xs)) - 1) (take (count + 1 - at) (drop at xs))
     → take (count + 1) (set (putMid at (count + 1 - at) xs ys) at one) ≡ inserted (take count xs) at one
 put-in xs at count one ys l m turned =
-    let part = take (count + 1 - at) (drop at xs) in
-    let long : length part ≡ count + 1 - at = length-between xs at (count + 1) (omega arith) in
-    let last = one-element (drop (length part - 1) part) (length-drop (length part - 1) part ∙ omega arith) in
     let q = drop at (take count xs) in
-    let shorter : length part - 1 ≡ count - at = omega arith in
-    let rest : take (length part - 1) part ≡ q =
-    take-take (length part - 1) (count + 1 - at) (drop at xs) (omega arith) ∙ ap (λ k. take k (drop at xs)) shorter ∙ between-is xs at count in
-    let ys-is : ys ≡ last .0 ∷ q = turned ∙ ap (λ t. t ++ take (length part - 1) part) (last .1) ∙ ap (λ t. last .0 ∷ t) rest in
+    let n-is : count + 1 - at ≡ count - at + 1 = omega arith in
+    let long : length (take (count + 1 - at) (drop at xs)) ≡ count - at + 1 = length-between xs at (count + 1) (omega arith) ∙ n-is in
+    let rest : take (count - at) (take (count + 1 - at) (drop at xs)) ≡ q = take-take (count - at) (count + 1 - at) (drop at xs) (omega arith) ∙ between-is xs at count in
+    let round = turned-by-one (take (count + 1 - at) (drop at xs)) q (count - at) long rest in
     let front : length (take at xs) ≡ at = length-take-le at xs (omega arith) in
-    let post = drop (count + 1 - at) (drop at xs) in
-    let written : set (putMid at (count + 1 - at) xs ys) at one ≡ take at xs ++ (one ∷ (q ++ post)) =
-    ap (λ t. set (take at xs ++ (t ++ post)) at one) ys-is ∙ set-at (take at xs) (last .0) (q ++ post) one at front in
-    let q-long : length q ≡ count - at = length-drop at (take count xs) ∙ ap (λ k. k - at) (length-take-le count xs (omega arith)) in
-    let whole : length (take at xs ++ (one ∷ q)) ≡ count + 1 = length-append (take at xs) (one ∷ q) ∙ omega arith in
-    ap (take (count + 1)) (written ∙ sym (append-assoc (take at xs) (one ∷ q) post)) ∙ take-at (take at xs ++ (one ∷ q)) post (count + 1) whole
+    let behind : length q ≡ count - at = length-drop at (take count xs) ∙ ap (λ k. k - at) (length-take-le count xs (omega arith)) in
+    ap (λ t. take (count + 1) (set (take at xs ++ (t ++ drop (count + 1 - at) (drop at xs))) at one)) (turned ∙ round .1)
+    ∙ written-over (take at xs) q (drop (count + 1 - at) (drop at xs)) (round .0) one at count front behind l
     ∙ ap (λ t. t ++ (one ∷ q)) (sym (take-take at count xs l))
 
 -- the record at `at` turned to behind the count, and so out of use

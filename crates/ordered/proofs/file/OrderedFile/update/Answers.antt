@@ -1,9 +1,9 @@
 use native.Mathlib.Omega.{arith}
 use mathlib.Core.Path.{_≡_, sym, ap, subst, _∙_}
-use Prim.Native.Nat.{_<_}
+use Prim.Native.Nat.{_<_, _≤_}
 use lib.ListN.{length, getD, set}
-use borrow.Author.Needs.{needs}
 use Rattle.std.proofs.shelf.Lists.{length-take, length-set, getD-read}
+use Rattle.std.proofs.shelf.Tests.{true≢false}
 use Rattle.ordered.specs.Files.{inUse, room, Ascends}
 use Rattle.ordered.proofs.Filing.{take-of-set, ascends-set}
 use Rattle.ordered.proofs.file.OrderedFile.update.Needs as need
@@ -22,11 +22,12 @@ returns-in-Equal g c =
     let inside : at < length xs = omega (arith, ap length seen) in
     let read : there ≡ getD xs at there = c .index-records-at .is ∙ ap (λ l. getD l at there) seen in
     let same : g .T·Rank .fields there ≡ g .T·Rank .fields item = sym (c .in-Equal .ensures tt) in
+    let long = length-set (c .args .self .now .memory .now) at item in
     let written = take-of-set (c .args .self .now .count) (c .args .self .now .memory .now) at item in
     record {
       test = (inside, ap (g .T·Rank .fields) (sym (getD-read xs at there inside read item)) ∙ same);
       items = λ e. written;
-      ascends = λ s up. (search (needs, length-set), subst (Ascends (g .T·Rank .before)) (sym written) (ascends-set (g .T·Rank·met .lawful) xs at there item inside read same up));
-      same = search needs;
-      memory = search (needs, length-set);
+      ascends = λ s up. (subst (λ n. c .args .self .now .count ≤ n) (sym long) s, subst (Ascends (g .T·Rank .before)) (sym written) (ascends-set (g .T·Rank·met .lawful) xs at there item inside read same up));
+      same = λ e. absurd (true≢false e);
+      memory = long;
     }
