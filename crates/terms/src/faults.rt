@@ -65,7 +65,7 @@ impl DirectoryFault {
 
 impl LineFault {
     // The name of the part that refused.
-    pub fn part(&self) -> &'static str
+    pub(crate) fn part(&self) -> &'static str
         ensures { λ r. ⌜ now r ≡ partOf (now (self .entry)) ⌝ }
     {
         match self {
@@ -75,7 +75,7 @@ impl LineFault {
     }
 
     // The number of the refusal.
-    pub fn number(&self) -> u32
+    pub(crate) fn number(&self) -> u32
         ensures { λ r. ⌜ r ≡ numberOf (now (self .entry)) ⌝ }
     {
         match self {

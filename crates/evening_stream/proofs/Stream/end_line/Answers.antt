@@ -12,7 +12,7 @@ use Rattle.evening_stream.proofs.Stream.end_line.Needs.{then-from-eq0·in-Cont
 
 pub returns-in-Err : need.returns-in-Err
 returns-in-Err c =
-    let unchanged = c .in-Err .ensures tt in
+    let unchanged = c .in-Err .ensures tt .value in
     (λ i. record { desk = unchanged .0 i; lines = c .keep .ensures .lines i; kept = c .keep .ensures .front i }, unchanged .1)
 
 pub returns : need.returns
@@ -23,9 +23,9 @@ returns c =
       | then-from-eq0·in-Continue-work w ↦
           rw (w .desk-is, w .out-is)
           (line-ended s (c .args .rest .now) whole _ _ (vec-items (c .args .out .now)) _ (c .saturating-add-number .ensures)
-          (ap (λ n. clipped (take n (c .args .self .now .bytes) ++ c .args .rest .now)) (sym (w .if-from-eq0 .taken))) (w .in-Continue-work .ensures tt))
+          (ap (λ n. clipped (take n (c .args .self .now .bytes) ++ c .args .rest .now)) (sym (w .if-from-eq0 .taken))) (w .in-Continue-work .ensures tt .value))
       | else-from-eq0·in-rest w ↦
           rw (w .desk-is, w .out-is)
           (line-ended s _ whole _ _ (vec-items (c .args .out .now)) _ (c .saturating-add-number .ensures)
-          (ap (λ n. clipped (take n (w .keep .last .self .bytes))) (omega arith) ∙ ap clipped (w .keep .ensures .kept) ∙ clipped-clipped whole) (w .in-rest .ensures tt))
+          (ap (λ n. clipped (take n (w .keep .last .self .bytes))) (omega arith) ∙ ap clipped (w .keep .ensures .kept) ∙ clipped-clipped whole) (w .in-rest .ensures tt .value))
     ]
