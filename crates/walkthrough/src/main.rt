@@ -86,5 +86,11 @@ fn main(rt: LibcRuntime) -> io::Result<()> {
         enter(&mut contracts, b"NORDWEST64", 64),
     )?;
     tell(&rt, "NORDWEST64 looked up", contracts.find(b"NORDWEST64"))?;
+    tell(&rt, "an empty code looked up", contracts.find(b""))?;
+    tell(
+        &rt,
+        "NORDWESTENERGIE looked up",
+        contracts.find(b"NORDWESTENERGIE"),
+    )?;
     tell(&rt, "NORDWEST41 looked up", contracts.find(b"NORDWEST41"))
 }
