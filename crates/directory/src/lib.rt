@@ -1,4 +1,6 @@
 // The directory: codes with their numbers, ranked by the bytes of the codes, in memory that its user lends.
+#![tactic(auto)]
+
 ghost use Rattle.ordered.specs.Files.{in_use, Sized, Ascends};
 ghost use Rattle.directory.specs.Codes.{earlier};
 

@@ -1,4 +1,6 @@
 // Runs an evening: reads an evening file from standard input in blocks as it arrives, and prints to standard output.
+#![tactic(auto)]
+
 use directory::{Directory, Entry};
 use evening_desk::Desk;
 use evening_stream::{Stop, Stream};

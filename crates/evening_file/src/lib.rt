@@ -1,4 +1,6 @@
 // Reads the lines of an evening file, one instruction a line.
+#![tactic(auto)]
+
 ghost use Rattle.std.specs.Prelude.{◌≡◌};
 ghost use Rattle.std.specs.Option.{option_map};
 ghost use Rattle.evening_file.specs.Lines.{up_to, line_said};

@@ -1,4 +1,6 @@
 // The evening as its input arrives: blocks of any size go in, lines are carried out as they end, and what they print comes out.
+#![tactic(auto)]
+
 ghost use Rattle.std.specs.Prelude.{◌≤◌};
 
 mod calls;

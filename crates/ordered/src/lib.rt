@@ -1,4 +1,6 @@
 // The ordered file: records of any kind that has a ranking, in strictly ascending order, in memory that its user lends.
+#![tactic(auto)]
+
 mod file;
 mod rank;
 

@@ -1,4 +1,6 @@
 // The words that several layers share: the style of a contract, the kind of a credit rule, and every part's refusals.
+#![tactic(auto)]
+
 mod faults;
 
 pub use faults::{DirectoryFault, LineFault, ReaderFault};

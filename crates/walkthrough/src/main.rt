@@ -1,4 +1,6 @@
 // Works one task with the directory and prints what it did: a delivery area whose codes all begin with the same eight letters.
+#![tactic(auto)]
+
 use directory::{Directory, Entry};
 use std::io;
 use terms::DirectoryFault;
