@@ -1,15 +1,15 @@
 -- What filing, updating, removing and compacting leave of a list that ascends.
-use Rattle.std.proofs.Common.{◌≡◌, ℕ, zero, suc, ◌+◌, ◌-◌, ◌<◌, ◌≤◌, min, Bool, true, false, cond, not, ◌⊎◌, List, [], ◌∷◌, ◌++◌, length, get_or, take, drop, set, Ok, Err, filter, sym, refl, ap, ◌∙◌, subst, inl, inr, ⊎_elim, add-one, arith}
+use Rattle.std.proofs.Common.{◌≡◌, ℕ, zero, suc, ◌+◌, ◌-◌, ◌<◌, ◌≤◌, min, Bool, true, false, cond, List, [], ◌∷◌, ◌++◌, length, get_or, take, drop, set, Ok, Err, filter, sym, refl, ap, ◌∙◌, subst, ⊎_elim, add-one, arith}
 use Rattle.std.specs.List.{insert, remove, AllByRecursion as All}
 use Rattle.std.proofs.lemmas.List.Edits.{length-between}
 use Rattle.std.proofs.lemmas.List.{take_all, take-take, take_at, drop-drop, length-set, length-drop, length-take-le, length-append, append_assoc, set_at, get_or_read, get_or-set_same, get_or-set_other}
 use Rattle.std.proofs.lemmas.Slice.{between_is}
 use Rattle.std.proofs.ByRecursion.{All-get_or, All-from_get_or, all_kept_by, All-weaker}
-use Rattle.std.proofs.lemmas.Bool.{both_ways, cases_Bool, cases_lt, cases_eq, cases_order, cond-true, cond-false, not-false, lt-ltb}
+use Rattle.std.proofs.lemmas.Bool.{both_ways, cases_Bool, cases_lt, cases_eq, cond-true, cond-false, not-false, lt-ltb}
 use borrow.Rule.Slice.PartMut.{put_mid}
 use Rattle.ordered.specs.Ranking.{Lawful}
 use Rattle.ordered.specs.Files.{Ascends, place, holds, located, filed, insertion}
-use Rattle.ordered.proofs.Order.{false_from_not, same_not_before, before_not_after, same_from_neither, Ascends-far}
+use Rattle.ordered.proofs.Order.{same_not_before, Ascends-far}
 
 -- a front that is clipped to the list is the front
 pub take_min : {T : Type 0} (n : ℕ) (xs : List T) → take (min n (length xs) - 0) xs ≡ take n xs

@@ -1,6 +1,6 @@
 -- Records in strictly ascending order, as lists: which are in use, where a record's place is, and what each call leaves.
 -- `before` is the order of the ranking throughout.
-use Rattle.std.specs.Prelude.{◌≡◌, ℕ, suc, ◌+◌, ◌<◌, ◌≤◌, Bool, true, false, cond, not, ◌&&◌, List, [], ◌∷◌, length, take, Ok, Err, filter, Result, nat_lt, slice_index_or}
+use Rattle.std.specs.Prelude.{◌≡◌, ℕ, suc, ◌+◌, ◌<◌, ◌≤◌, Bool, true, false, cond, not, List, [], ◌∷◌, length, take, Ok, Err, filter, Result, nat_lt, slice_index_or}
 use Rattle.ordered.specs.declared.file.OrderedFile.{OrderedFile}
 use Rattle.ordered.specs.declared.file.InsertFault.{InsertFault}
 use Rattle.ordered.specs.declared.file.InsertFault.TheVariants.{Present, Full}

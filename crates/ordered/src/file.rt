@@ -41,8 +41,8 @@ impl<'a, T: Rank + Copy> OrderedFile<'a, T> {
 
     // The place of the key's rank: `Ok` where a record has it, `Err` with the place where one would have to go.
     pub fn find(&self, key: &T) -> Result<usize, usize>
-        ensures value { Ascends before (in_use self.now) → result ≡ located before key.now (in_use self.now) }
-        ensures cases { Ascends before (in_use self.now) → ToldByPlace before fields key.now (in_use self.now) result }
+        ensures value { Ascends T.before (in_use self.now) → result ≡ located T.before key.now (in_use self.now) }
+        ensures cases { Ascends T.before (in_use self.now) → ToldByPlace T.before T.fields key.now (in_use self.now) result }
         ensures bound { MatchResult result (λ i. i < length (in_use self.now)) (λ i. i ≤ length (in_use self.now)) }
     {
         let records = self.used();
@@ -58,9 +58,9 @@ impl<'a, T: Rank + Copy> OrderedFile<'a, T> {
 
     // Files a record in its place. Refused where its rank is there already, then where no place is left.
     pub fn insert(&mut self, item: T) -> Result<(), InsertFault>
-        ensures answers { Sized self.old → Ascends before (in_use self.old) → result ≡ told (insertion before (room self.old) (in_use self.old) item) }
-        ensures items { Sized self.old → Ascends before (in_use self.old) → in_use self.new ≡ left (in_use self.old) (insertion before (room self.old) (in_use self.old) item) }
-        ensures ascends { Sized self.old → Ascends before (in_use self.old) → Sized self.new × Ascends before (in_use self.new) }
+        ensures answers { Sized self.old → Ascends T.before (in_use self.old) → result ≡ told (insertion T.before (room self.old) (in_use self.old) item) }
+        ensures items { Sized self.old → Ascends T.before (in_use self.old) → in_use self.new ≡ left (in_use self.old) (insertion T.before (room self.old) (in_use self.old) item) }
+        ensures ascends { Sized self.old → Ascends T.before (in_use self.old) → Sized self.new × Ascends T.before (in_use self.new) }
         ensures same { is_err result ≡ true → self.new ≡ self.old }
         ensures memory { room self.new ≡ room self.old }
     {
@@ -79,9 +79,9 @@ impl<'a, T: Rank + Copy> OrderedFile<'a, T> {
 
     // Puts a record in the place of one of the same rank, and says so. At another rank, or where no record is in use, nothing changes.
     pub fn update(&mut self, at: usize, item: T) -> bool
-        ensures test { MatchBool result (SameRank fields (in_use self.old) at item) (SameRank fields (in_use self.old) at item → ⊥) }
+        ensures test { MatchBool result (SameRank T.fields (in_use self.old) at item) (SameRank T.fields (in_use self.old) at item → ⊥) }
         ensures items { result ≡ true → in_use self.new ≡ slice_set (in_use self.old) at item }
-        ensures ascends { Sized self.old → Ascends before (in_use self.old) → Sized self.new × Ascends before (in_use self.new) }
+        ensures ascends { Sized self.old → Ascends T.before (in_use self.old) → Sized self.new × Ascends T.before (in_use self.new) }
         ensures same { result ≡ false → self.new ≡ self.old }
         ensures memory { room self.new ≡ room self.old }
     {
@@ -102,7 +102,7 @@ impl<'a, T: Rank + Copy> OrderedFile<'a, T> {
     pub fn remove(&mut self, at: usize) -> bool
         ensures test { result ≡ nat_lt at (length (in_use self.old)) }
         ensures items { result ≡ true → in_use self.new ≡ remove (in_use self.old) at }
-        ensures ascends { Sized self.old → Ascends before (in_use self.old) → Sized self.new × Ascends before (in_use self.new) }
+        ensures ascends { Sized self.old → Ascends T.before (in_use self.old) → Sized self.new × Ascends T.before (in_use self.new) }
         ensures same { result ≡ false → self.new ≡ self.old }
         ensures memory { room self.new ≡ room self.old }
     {
@@ -119,9 +119,9 @@ impl<'a, T: Rank + Copy> OrderedFile<'a, T> {
 impl<'a, T: Rank + Void + Copy> OrderedFile<'a, T> {
     // Drops the records that are void and keeps the others in their order, in one pass.
     pub fn compact(&mut self)
-        ensures items { in_use self.new ≡ standing void (in_use self.old) }
-        ensures ascends { Ascends before (in_use self.old) → Sized self.new × Ascends before (in_use self.new) }
-        ensures same { Sized self.old → standing void (in_use self.old) ≡ in_use self.old → self.new ≡ self.old }
+        ensures items { in_use self.new ≡ standing T.void (in_use self.old) }
+        ensures ascends { Ascends T.before (in_use self.old) → Sized self.new × Ascends T.before (in_use self.new) }
+        ensures same { Sized self.old → standing T.void (in_use self.old) ≡ in_use self.old → self.new ≡ self.old }
         ensures memory { room self.new ≡ room self.old }
     {
         let n = self.count.min(self.memory.len());
@@ -131,7 +131,7 @@ impl<'a, T: Rank + Void + Copy> OrderedFile<'a, T> {
 
 // The first place whose record does not come before the key, by halving.
 fn lower_bound<T: Rank>(records: &[T], key: &T) -> usize
-    ensures value { Ascends before records.now → result ≡ place before key.now records.now }
+    ensures value { Ascends T.before records.now → result ≡ place T.before key.now records.now }
     ensures bound { result ≤ length records.now }
 {
     let mut low = 0;
@@ -167,7 +167,7 @@ fn take_out<T>(memory: &mut [T], at: usize, count: usize)
 // Moves the records up to the count that are not void to the front, and says how many there are.
 fn sweep<T: Void + Copy>(memory: &mut [T], count: usize) -> usize
     requires { count ≤ length memory.old }
-    ensures front { take result memory.new ≡ standing void (take count memory.old) }
+    ensures front { take result memory.new ≡ standing T.void (take count memory.old) }
     ensures bound { result ≤ count }
     ensures same { result ≡ count → memory.new ≡ memory.old }
 {

@@ -6,8 +6,8 @@ use Rattle.evening_file.specs.Said.{seen}
 use Rattle.evening_file.proofs.Spelling.{by_its_words}
 use Rattle.evening_file.proofs.read.Goals as goal
 
-pub returns-in-default : goal.returns-in-default
-returns-in-default c =
+pub returns-in_default : goal.returns-in_default
+returns-in_default c =
     let said : seen (Err Length) ≡ line_said c.args.input.now = search rules in record { value = said; words = by_its_words _ (Err Length) said }
 
 pub returns-then-too-long : goal.returns-then-too-long
@@ -16,4 +16,4 @@ returns-then-too-long c =
 
 pub returns : goal.returns
 returns c =
-    let said : seen c.read-form.result ≡ line_said c.args.input.now = search rules in record { value = said; words = by_its_words _ c.read-form.result said }
+    let said : seen c.read_form.result ≡ line_said c.args.input.now = search rules in record { value = said; words = by_its_words _ c.read_form.result said }

@@ -14,7 +14,7 @@ returns-in-Err c =
     let after = entered d.file e c.args.code.now formed.1 formed.0 d.ascends c.insert.new.self (c.insert.ensures.items d.sized d.ascends) in
     record {
       answers =
-          ap Err c.as-fault.ensures ∙ sym (ap retold_answer c.in-Err.is)
+          ap Err c.as_fault.ensures ∙ sym (ap retold_answer c.in-Err.is)
           ∙ answered d.file e c.args.code.now formed.1 formed.0 d.ascends c.insert.result (c.insert.ensures.answers d.sized d.ascends);
       items = after;
       room = c.insert.ensures.memory;

@@ -4,13 +4,13 @@ use Rattle.std.proofs.lemmas.Bool.{and_left}
 use Rattle.directory.specs.Codes.{code_byte, code_bytes}
 use Rattle.directory.proofs.code.all_code_bytes.Goals as goal
 
-pub returns-then-not-is-code-byte : goal.returns-then-not-is-code-byte
-returns-then-not-is-code-byte c =
-    sym (and_left _ _ (sym c.if-not-is-code-byte.ensures)) ∙ sym (at_drop_more code_bytes c.args.bytes.now c.loop-b.b-index 0 c.loop-b-test.true) ∙ c.loop-b.invariant
+pub returns-then-not-is_code_byte : goal.returns-then-not-is_code_byte
+returns-then-not-is_code_byte c =
+    sym (and_left _ _ (sym c.if-not-is_code_byte.ensures)) ∙ sym (at_drop_more code_bytes c.args.bytes.now c.loop-b.b-index 0 c.loop-b-test.true) ∙ c.loop-b.invariant
 
 pub loop-b-preserved : goal.loop-b-preserved
 loop-b-preserved c =
-    ap (λ v. v && code_bytes (drop (c.loop-b.b-index + 1) c.args.bytes.now)) c.if-not-is-code-byte.ensures
+    ap (λ v. v && code_bytes (drop (c.loop-b.b-index + 1) c.args.bytes.now)) c.if-not-is_code_byte.ensures
     ∙ sym (at_drop_more code_bytes c.args.bytes.now c.loop-b.b-index 0 c.loop-b-test.true)
     ∙ c.loop-b.invariant
 

@@ -33,6 +33,6 @@ loop-byte-preserved c =
 pub returns : goal.returns
 returns c =
     record {
-      value = sym (all_digits _ _ _ (omega arith) (search rules) c.if-digits-gt-MAX-DIGITS.false c.loop-byte.invariant.1 c.loop-byte.invariant.2);
+      value = sym (all_digits _ _ _ (omega arith) (search rules) c.if-digits-gt-MAX_DIGITS.false c.loop-byte.invariant.1 c.loop-byte.invariant.2);
       bound = below_at _ _ 12 c.loop-byte.invariant.0 (omega arith);
     }

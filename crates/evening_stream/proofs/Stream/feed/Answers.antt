@@ -15,7 +15,7 @@ loop-n-preserved c =
     let few : length (take c.loop-n.self.len c.loop-n.self.bytes) ≤ 401 = simp length-take (omega (arith, c.loop-n.self.few)) in
     let left : length (take (length block - c.loop-n.taken) (drop c.loop-n.taken block)) ≡ length block - c.loop-n.taken = ap length (take_rest block c.loop-n.taken) ∙ length-drop c.loop-n.taken block in
     let grown = next_line (state_of c.args.self.now c.args.desk.now) block (vec_items c.args.out.now) c.loop-n.taken (state_of c.loop-n.self c.loop-n.desk) (vec_items c.loop-n.out) inv.1 inv.2 few c.in-Some.n
-    (state_of c.end-line.new.self c.end-line.new.desk) (vec_items c.end-line.new.out) c.end-line.result first (sym c.if-is-err.ensures.value) c.end-line.ensures in
+    (state_of c.end_line.new.self c.end_line.new.desk) (vec_items c.end_line.new.out) c.end_line.result first (sym c.if-is_err.ensures.value) c.end_line.ensures in
     (omega (arith, first.1), grown.0, grown.1)
 
 pub returns : goal.returns
@@ -24,4 +24,4 @@ returns c =
     let inv = c.loop-n.invariant in
     let few : length (take c.loop-n.self.len c.loop-n.self.bytes) ≤ 401 = simp length-take (omega (arith, c.loop-n.self.few)) in
     rest_kept (state_of c.args.self.now c.args.desk.now) block (vec_items c.args.out.now) c.loop-n.taken (state_of c.loop-n.self c.loop-n.desk) (vec_items c.loop-n.out) inv.1 inv.2 few
-    (state_of c.keep.new.self c.loop-n.desk) c.in-default.ensures (λ i. record { desk = (state_of c.loop-n.self c.loop-n.desk).desk; lines = c.keep.ensures.lines i; kept = c.keep.ensures.kept i })
+    (state_of c.keep.new.self c.loop-n.desk) c.in_default.ensures (λ i. record { desk = (state_of c.loop-n.self c.loop-n.desk).desk; lines = c.keep.ensures.lines i; kept = c.keep.ensures.kept i })

@@ -1,5 +1,4 @@
-use Rattle.std.proofs.Common.{refl, arith, rules}
-use Rattle.std.specs.Ordering.{MatchOrdering}
+use Rattle.std.proofs.Common.{arith}
 use Rattle.ordered.proofs.Places.{Between-up, Between-down, not_before, place_between}
 use Rattle.ordered.proofs.file.lower_bound.Goals as goal
 
@@ -12,7 +11,7 @@ loop-low-preserved g c = (
   omega arith,
   λ up.
       Between-down g.met.T.Rank.lawful c.args.key.now c.args.records.now up c.loop-low.low c.loop-low.high _ c.index-records-middle.result (omega arith) c.index-records-middle.is
-      (not_before g.met.T.Rank.lawful c.args.key.now c.args.records.now up _ _ c.rank.ensures c.in-default.not-Less) (c.loop-low.invariant.2 up),
+      (not_before g.met.T.Rank.lawful c.args.key.now c.args.records.now up _ _ c.rank.ensures c.in_default.not-Less) (c.loop-low.invariant.2 up),
 )
 
 pub loop-low-preserved-in-Less : goal.loop-low-preserved-in-Less

@@ -6,7 +6,7 @@ use Rattle.directory.proofs.code.Code.new.Goals as goal
 pub returns : goal.returns
 returns c =
     let bs = c.args.bytes.now in
-    let copied = c.copy-from-slice.ensures.after in (
-      and_from _ _ (le-leb 1 (length bs) (omega arith)) (and_from _ _ (le-leb (length bs) 12 (omega arith)) (sym c.if-not-all-code-bytes.ensures)),
-      take_at c.copy-from-slice.new.self _ (min (length bs) 12) (ap length copied ∙ omega arith) ∙ copied,
+    let copied = c.copy_from_slice.ensures.after in (
+      and_from _ _ (le-leb 1 (length bs) (omega arith)) (and_from _ _ (le-leb (length bs) 12 (omega arith)) (sym c.if-not-all_code_bytes.ensures)),
+      take_at c.copy_from_slice.new.self _ (min (length bs) 12) (ap length copied ∙ omega arith) ∙ copied,
     )

@@ -6,7 +6,7 @@ use Rattle.evening_desk.proofs.Looking.{left_looked, left_looked_twice}
 use Rattle.evening_desk.proofs.desk.Desk.carry_out.Goals as goal
 
 pub returns-in-Account : goal.returns-in-Account
-returns-in-Account c = rw c.in-Account.is c.enter-account.ensures
+returns-in-Account c = rw c.in-Account.is c.enter_account.ensures
 
 pub returns-in-Trade : goal.returns-in-Trade
 returns-in-Trade c =

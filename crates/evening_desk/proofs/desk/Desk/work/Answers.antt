@@ -12,7 +12,7 @@ returns-in-Ok c = record {
 pub returns-in-ok-text : goal.returns-in-ok-text
 returns-in-ok-text c = record {
   value =
-      worked_refused (held c.args.self.now) _ c.args.number c.args.line.now (vec_items c.args.out.now) c.as-bytes.result.now _ c.in-Err.fault c.extend-from-slice.result c.in-Err.ensures.answers
-      c.in-Err.ensures.after (c.as-bytes.ensures.value ∙ c.in-ok-text.ensures) c.extend-from-slice.ensures.items;
+      worked_refused (held c.args.self.now) _ c.args.number c.args.line.now (vec_items c.args.out.now) c.as_bytes.result.now _ c.in-Err.fault c.extend_from_slice.result c.in-Err.ensures.answers
+      c.in-Err.ensures.after (c.as_bytes.ensures.value ∙ c.in-ok-text.ensures) c.extend_from_slice.ensures.items;
   memory = λ r. c.in-Err.ensures.memory refl;
 }

@@ -7,11 +7,11 @@ use Rattle.evening_file.proofs.words.Words.next.Goals as goal
 
 pub returns : goal.returns
 returns c =
-    let rest = c.past-spaces-rest.result.now in
-    let word = c.split-at.result.0.now in
-    let after = c.split-at.result.1.now in
-    let cut : words c.args.self.now.rest.now ≡ ended word (words after) = sym c.past-spaces-rest.ensures.same ∙ c.word-len.ensures.value ∙ cc in
-    let none : length word ≡ 0 → words c.args.self.now.rest.now ≡ [] = λ e. sym c.past-spaces-rest.ensures.same ∙ words_none rest (elim (cases_lt 0 (length rest)) [ inl h ↦ absurd (omega (arith, c.word-len.ensures.some h (c.past-spaces-rest.ensures.first h))) | inr h ↦ omega arith ]) in
+    let rest = c.past_spaces-rest.result.now in
+    let word = c.split_at.result.0.now in
+    let after = c.split_at.result.1.now in
+    let cut : words c.args.self.now.rest.now ≡ ended word (words after) = sym c.past_spaces-rest.ensures.same ∙ c.word_len.ensures.value ∙ cc in
+    let none : length word ≡ 0 → words c.args.self.now.rest.now ≡ [] = λ e. sym c.past_spaces-rest.ensures.same ∙ words_none rest (elim (cases_lt 0 (length rest)) [ inl h ↦ absurd (omega (arith, c.word_len.ensures.some h (c.past_spaces-rest.ensures.first h))) | inr h ↦ omega arith ]) in
     record {
       handed = word_off _ word _ cut none;
       none = none;

@@ -1,7 +1,7 @@
-use Rattle.std.proofs.Common.{◌≡◌, ◌-◌, ◌≤◌, min, length, take, sym, ap, ◌∙◌, subst, arith, rules}
+use Rattle.std.proofs.Common.{◌≡◌, length, take, sym, ap, ◌∙◌, subst, arith, rules}
 use borrow.Rule.Slice.Mut.{set_vals}
 use Rattle.std.proofs.lemmas.List.{length-take, length-take-le}
-use Rattle.ordered.specs.Files.{in_use, room, Ascends, standing}
+use Rattle.ordered.specs.Files.{in_use, Ascends, standing}
 use Rattle.ordered.proofs.Filing.{take_min, Ascends-kept_by}
 use Rattle.ordered.proofs.file.OrderedFile.compact.Goals as goal
 

@@ -1,7 +1,7 @@
-use Rattle.std.proofs.Common.{◌≡◌, ◌<◌, false, length, Ok, sym, ap, ◌∙◌, subst, arith, rules}
+use Rattle.std.proofs.Common.{◌<◌, length, sym, ap, ◌∙◌, subst, arith, rules}
 use Rattle.std.proofs.lemmas.List.{length-take}
 use Rattle.std.specs.List.{insert}
-use Rattle.ordered.specs.Files.{in_use, room, Ascends, holds, filed, insertion, told, left}
+use Rattle.ordered.specs.Files.{in_use, room, Ascends, told, left}
 use Rattle.ordered.proofs.Filing.{located_err, insertion_ok, filed_inserted, Ascends-filed}
 use Rattle.ordered.proofs.file.OrderedFile.insert.Goals as goal
 
@@ -14,7 +14,7 @@ returns g c =
     let few : length xs < room file = simp length-take (omega arith) in
     let spot = λ (up : Ascends before xs). located_err before item xs c.in-Err.at (c.in-Err.ensures.value up) in
     let outcome = λ (up : Ascends before xs). insertion_ok before (room file) xs item (spot up).0 few in
-    let put = λ (up : Ascends before xs). c.put-in.ensures.front ∙ ap (λ p. insert xs p item) (spot up).1 ∙ sym (filed_inserted before item xs) in
+    let put = λ (up : Ascends before xs). c.put_in.ensures.front ∙ ap (λ p. insert xs p item) (spot up).1 ∙ sym (filed_inserted before item xs) in
     record {
       answers = λ s up. sym (ap told (outcome up));
       items = λ s up. put up ∙ sym (ap (left xs) (outcome up));

@@ -1,7 +1,7 @@
-use Rattle.std.proofs.Common.{◌≡◌, ◌-◌, ◌<◌, ◌≤◌, min, length, take, sym, ap, ◌∙◌, subst, arith, rules, le-ltb, lt-ltb}
+use Rattle.std.proofs.Common.{◌≡◌, take, sym, ap, ◌∙◌, subst, arith, rules, le-ltb, lt-ltb}
 use Rattle.std.specs.List.{remove}
 use Rattle.std.proofs.lemmas.List.{length-take}
-use Rattle.ordered.specs.Files.{in_use, room, Ascends}
+use Rattle.ordered.specs.Files.{in_use, Ascends}
 use Rattle.ordered.proofs.Filing.{take_min, Ascends-removed}
 use Rattle.ordered.proofs.file.OrderedFile.remove.Goals as goal
 
@@ -22,7 +22,7 @@ returns g c =
     let xs = in_use file in
     let long = length-take file.count file.memory.now in
     let clipped : take c.min-n.result file.memory.now ≡ xs = ap (λ k. take k file.memory.now) (omega (arith, c.min-n.ensures)) ∙ take_min file.count file.memory.now in
-    let left = c.take-out.ensures.front ∙ ap (λ l. remove l c.args.at) clipped in
+    let left = c.take_out.ensures.front ∙ ap (λ l. remove l c.args.at) clipped in
     record {
       test = sym (lt-ltb _ _ (omega (arith, long, c.min-n.ensures)));
       items = λ e. left;

@@ -1,7 +1,7 @@
-use Rattle.std.proofs.Common.{◌≡◌, ◌<◌, ◌≤◌, length, get_or, set, sym, ap, ◌∙◌, subst, arith}
+use Rattle.std.proofs.Common.{◌≡◌, ◌<◌, ◌≤◌, length, get_or, sym, ap, ◌∙◌, subst, arith}
 use Rattle.std.proofs.lemmas.List.{length-take, length-set, get_or_read}
 use Rattle.std.proofs.lemmas.Bool.{true≢false}
-use Rattle.ordered.specs.Files.{in_use, room, Ascends}
+use Rattle.ordered.specs.Files.{in_use, Ascends}
 use Rattle.ordered.proofs.Filing.{take_of_set, Ascends-set}
 use Rattle.ordered.proofs.file.OrderedFile.update.Goals as goal
 
