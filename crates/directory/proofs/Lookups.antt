@@ -1,9 +1,9 @@
 -- What the ordered file tells of entries is what the list of codes and numbers says.
-use Rattle.std.proofs.Common.{◌≡◌, ℕ, zero, suc, ◌<◌, ◌≤◌, Bool, true, false, cond, not, ◌&&◌, eqb, ltb, ◌⊎◌, List, [], ◌∷◌, map, length, get_or, is_some, Some, None, Ok, Err, Option, Result, sym, refl, ap, ◌∙◌, subst, inl, inr, ⊎_elim, arith}
+use Rattle.std.proofs.Common.{◌≡◌, ℕ, zero, suc, ◌<◌, Bool, true, false, cond, ltb, List, [], ◌∷◌, map, length, get_or, is_some, Some, None, Ok, Err, Result, sym, refl, ap, ◌∙◌, subst, ⊎_elim, arith}
 use Rattle.std.specs.Option.{ok_or}
-use Rattle.std.proofs.lemmas.List.{length-map, get_or-map}
+use Rattle.std.proofs.lemmas.List.{length-map}
 use Rattle.std.proofs.lemmas.Bool.{false≢true, both_ways, cases_Bool, cases_lt, cond-true, cond-false, eq-eqb, eqb-true, and_parts, and_from}
-use Rattle.ordered.specs.Files.{in_use, room, Ascends, place, holds, located, ToldByPlace, filed, insertion, told, left}
+use Rattle.ordered.specs.Files.{in_use, room, Ascends, place, holds, ToldByPlace, filed, insertion, told, left}
 use Rattle.ordered.specs.declared.file.OrderedFile.{OrderedFile}
 use Rattle.ordered.specs.declared.file.InsertFault.{InsertFault}
 use Rattle.ordered.specs.declared.file.InsertFault.TheVariants as ordered

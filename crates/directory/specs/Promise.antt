@@ -1,7 +1,7 @@
 -- Over any sequence of entries, every code that was accepted is found with its number and no other code is.
 --
 -- An attempt is a code with a number that was to be entered. Lists of attempts have the latest first.
-use Rattle.std.specs.Prelude.{◌≡◌, ℕ, Bool, cond, not, ◌&&◌, List, [], ◌∷◌, length, is_some, Result, nat_lt}
+use Rattle.std.specs.Prelude.{◌≡◌, ℕ, cond, not, ◌&&◌, List, [], ◌∷◌, length, is_some, Result, nat_lt}
 use Rattle.ordered.specs.Files.{left}
 use Rattle.directory.specs.declared.Directory.{Directory}
 use Rattle.terms.specs.declared.faults.DirectoryFault.{DirectoryFault}

@@ -1,12 +1,7 @@
--- The ranking of codes is lawful, and it is what comparing their bytes tells.
-use Rattle.std.specs.Prelude.{◌≡◌, ℕ, ◌<◌, Bool, true, false, cond, ◌⊎◌, List, [], ◌∷◌, ◌≢◌, refl}
-use Rattle.std.specs.declared.cmp.Ordering.TheVariants.{Less, Equal, Greater}
-use Rattle.std.specs.declared.cmp.Ordering.{Ordering}
-use Rattle.std.proofs.Common.{arith, sym, ap, subst, ◌∙◌, inl, inr, ⊎_elim}
-use Rattle.std.specs.Ordering.{MatchOrdering}
-use Rattle.std.specs.Cmp.Lexicographic.{Lex}
-use Rattle.std.proofs.lemmas.Cmp.{by_ranked}
-use Rattle.std.proofs.lemmas.Bool.{false≢true, both_ways, cases_order, cond-true, cond-false, eq-eqb, ne_eqb, lt-ltb}
+-- The ranking of codes is lawful.
+use Rattle.std.specs.Prelude.{◌≡◌, ℕ, true, false, ◌⊎◌, List, [], ◌∷◌, ◌≢◌, refl}
+use Rattle.std.proofs.Common.{arith, sym, subst, ◌∙◌, inl, inr, ⊎_elim}
+use Rattle.std.proofs.lemmas.Bool.{false≢true, both_ways, cases_order, cond-true, eq-eqb}
 use Rattle.std.proofs.lemmas.Bool.Decides.{nat_tests}
 use Rattle.ordered.specs.Ranking.{ExactlyOne, Lawful}
 use Rattle.directory.specs.Codes.{precedes, text_of, earlier}
@@ -58,21 +53,3 @@ codes_one xs ys =
 -- entries rank lawfully by their codes
 pub by_code : Lawful earlier text_of
 by_code = record { one = λ x y. codes_one (text_of x) (text_of y); trans = λ x y z. precedes_trans (text_of x) (text_of y) (text_of z) }
-
--- what `cmp` answers of two codes' bytes
-pub codes_ranked : (xs ys : List ℕ) (o : Ordering) → Lex (λ a b k. MatchOrdering k (a < b) (a ≡ b) (b < a)) xs ys o → MatchOrdering o (precedes xs ys ≡ true) (xs ≡ ys) (precedes ys xs ≡ true)
-codes_ranked [] [] o e = rw e refl
-codes_ranked [] (y ∷ ys) o e = rw e refl
-codes_ranked (x ∷ xs) [] o e = rw e refl
-codes_ranked (x ∷ xs) (y ∷ ys) o h = next (codes_ranked xs ys o) h.0 h.1 h.2
-  where
-    next : (Lex (λ a b j. MatchOrdering j (a < b) (a ≡ b) (b < a)) xs ys o → MatchOrdering o (precedes xs ys ≡ true) (xs ≡ ys) (precedes ys xs ≡ true))
-        → (k : Ordering) → MatchOrdering k (x < y) (x ≡ y) (y < x) → MatchOrdering k (o ≡ Less) (Lex (λ a b j. MatchOrdering j (a < b) (a ≡ b) (b < a)) xs ys o) (o ≡ Greater)
-        → MatchOrdering o (precedes (x ∷ xs) (y ∷ ys) ≡ true) (x ∷ xs ≡ y ∷ ys) (precedes (y ∷ ys) (x ∷ xs) ≡ true)
-    next more Less l e = rw e (grind (arith, nat_tests))
-    next more Greater l e = rw e (grind (arith, nat_tests))
-    next more Equal e rest =
-        by_ranked _ _ _ o (more rest)
-        (λ is p. rw is (cond-true _ _ _ (eq-eqb x y e) ∙ p))
-        (λ is s. rw is (λ i. e i ∷ s i))
-        (λ is p. rw is (cond-true _ _ _ (eq-eqb y x (sym e)) ∙ p))

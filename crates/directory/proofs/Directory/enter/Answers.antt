@@ -1,7 +1,6 @@
-use Rattle.std.proofs.Common.{◌≡◌, Ok, Err, sym, refl, ap, ◌∙◌, subst, rules}
+use Rattle.std.proofs.Common.{Err, sym, refl, ap, ◌∙◌, rules}
 use Rattle.directory.specs.declared.code.Entry.{Entry}
-use Rattle.directory.specs.Entries.{Listed, entries, places}
-use Rattle.directory.specs.Faults.{as_fault}
+use Rattle.directory.specs.Entries.{entries, places}
 use Rattle.directory.proofs.Lookups.{retold_answer, entered, answered}
 use Rattle.directory.proofs.Attempts.{goes_on}
 use Rattle.directory.proofs.Directory.enter.Goals as goal

@@ -1,5 +1,4 @@
-use Rattle.std.proofs.Common.{◌≡◌, List, [], get_or, Ok, sym, ap, ◌∙◌}
-use Rattle.ordered.specs.Files.{in_use}
+use Rattle.std.proofs.Common.{List, [], get_or, Ok, ap, ◌∙◌}
 use Rattle.directory.specs.declared.code.Entry.{Entry}
 use Rattle.directory.specs.Entries.{places, finding}
 use Rattle.directory.proofs.Lookups.{found_at, found_none}

@@ -1,7 +1,7 @@
-use Rattle.std.proofs.Common.{◌≡◌, ◌+◌, true, false, ◌&&◌, get_or, drop, sym, ap, ◌∙◌}
+use Rattle.std.proofs.Common.{◌+◌, ◌&&◌, drop, sym, ap, ◌∙◌}
 use Rattle.std.proofs.lemmas.List.{at_drop_more, at_drop_all}
 use Rattle.std.proofs.lemmas.Bool.{and_left}
-use Rattle.directory.specs.Codes.{code_byte, code_bytes}
+use Rattle.directory.specs.Codes.{code_bytes}
 use Rattle.directory.proofs.code.all_code_bytes.Goals as goal
 
 pub returns-then-not-is_code_byte : goal.returns-then-not-is_code_byte

@@ -1,4 +1,4 @@
-use Rattle.std.proofs.Common.{◌≡◌, ◌≤◌, length, drop}
+use Rattle.std.proofs.Common.{◌≡◌, drop}
 use Rattle.directory.specs.Codes.{code_bytes}
 use Rattle.directory.proofs.code.all_code_bytes.Given as goal
 

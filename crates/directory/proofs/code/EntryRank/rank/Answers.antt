@@ -1,7 +1,7 @@
 use Rattle.std.proofs.Common.{◌≡◌, true, subst₂}
 use Rattle.std.specs.Ordering.{MatchOrdering}
 use Rattle.directory.specs.Codes.{precedes}
-use Rattle.directory.specs.Ranks.{codes_ranked}
+use Rattle.directory.proofs.Ranks.{codes_ranked}
 use Rattle.directory.proofs.code.EntryRank.rank.Goals as goal
 
 pub returns : goal.returns
