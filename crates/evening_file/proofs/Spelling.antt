@@ -1,9 +1,8 @@
 -- The words of a line that was written with spaces between them are those that were written.
-use Rattle.std.proofs.Common.{◌≡◌, ℕ, zero, suc, ◌≤◌, Bool, true, false, cond, not, ◌&&◌, eqb, leb, List, [], ◌∷◌, ◌++◌, map, length, replicate, Some, Err, Result, sym, refl, ap, ◌∙◌, append_assoc, append-nil, arith}
+use Rattle.std.proofs.Common.{◌≡◌, ℕ, zero, suc, Bool, true, not, ◌&&◌, eqb, leb, List, [], ◌∷◌, ◌++◌, map, length, replicate, Some, Result, sym, refl, ap, ◌∙◌, append_assoc, append-nil}
 use Rattle.std.proofs.lemmas.Bool.{cond-true, cond-false, and_parts, and_from, not-true, not_from_false, ne_eqb, le-leb, false≢true}
 use Rattle.std.specs.Option.{option_map}
 use Rattle.terms.specs.declared.faults.ReaderFault.{ReaderFault}
-use Rattle.terms.specs.declared.faults.ReaderFault.TheVariants.{Length}
 use Rattle.evening_file.specs.declared.line.Line.{Line}
 use Rattle.evening_file.specs.Lines.{up_to, fitting, formed, line_said, by_letter, behind}
 use Rattle.evening_file.specs.Said.{seen}

@@ -10,8 +10,8 @@ pub returns-in_default : goal.returns-in_default
 returns-in_default c =
     let said : seen (Err Length) ≡ line_said c.args.input.now = search rules in record { value = said; words = by_its_words _ (Err Length) said }
 
-pub returns-then-too-long : goal.returns-then-too-long
-returns-then-too-long c =
+pub returns-then-line-gt-MAX_LINE : goal.returns-then-line-gt-MAX_LINE
+returns-then-line-gt-MAX_LINE c =
     let said : seen (Err Length) ≡ line_said c.args.input.now = search rules in record { value = said; words = by_its_words _ (Err Length) said }
 
 pub returns : goal.returns

@@ -1,5 +1,5 @@
 -- The losses read so far stand in the first places.
-use Rattle.std.proofs.Common.{◌≡◌, ◌+◌, length}
+use Rattle.std.proofs.Common.{◌≡◌, length}
 use Rattle.evening_file.specs.Words.{left}
 use Rattle.evening_file.proofs.Losses.{Sofar}
 use Rattle.evening_file.proofs.forms.read_losses.Given as goal

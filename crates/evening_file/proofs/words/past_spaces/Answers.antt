@@ -1,5 +1,5 @@
 -- A space passed leaves the words as they are.
-use Rattle.std.proofs.Common.{◌≡◌, ◌<◌, length, get_or, ◌∙◌, arith, rules}
+use Rattle.std.proofs.Common.{◌∙◌, arith, rules}
 use Rattle.std.proofs.lemmas.List.{length-take, length-drop}
 use Rattle.evening_file.proofs.Parting.{words_past_space}
 use Rattle.evening_file.proofs.words.past_spaces.Goals as goal

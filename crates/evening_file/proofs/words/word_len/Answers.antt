@@ -1,5 +1,5 @@
 -- A space or the end of the line ends the word.
-use Rattle.std.proofs.Common.{length, get_or, take, sym, refl, ◌∙◌, arith}
+use Rattle.std.proofs.Common.{sym, ◌∙◌, arith}
 use Rattle.evening_file.proofs.Parting.{words_start, word_more, word_at_space, word_at_end}
 use Rattle.evening_file.proofs.words.word_len.Goals as goal
 

@@ -26,11 +26,11 @@ returns-in-Transfer c =
       memory = λ _. refl;
     }
 
-pub returns-in-ok-account : goal.returns-in-ok-account
-returns-in-ok-account c =
+pub returns-in_ok-account : goal.returns-in_ok-account
+returns-in_ok-account c =
     let h = held c.args.self.now in
     rw c.in-Reading.is record {
-      answers = ap (λ a. told (onward a (λ _. Ok h))) c.in-ok-account.ensures;
+      answers = ap (λ a. told (onward a (λ _. Ok h))) c.in_ok-account.ensures;
       after = left_looked h (account h c.in-Reading.account.now);
       memory = λ _. refl;
     }
