@@ -1,5 +1,5 @@
 -- What a line's answer tells of the desk after it and of what is printed.
-use Rattle.std.proofs.Common.{◌≡◌, ℕ, true, cond, List, [], ◌++◌, is_ok, is_err, Ok, Err, Result, sym, refl, ap, ◌∙◌, subst, append-nil, arith}
+use Rattle.std.proofs.Common.{◌≡◌, ℕ, true, cond, List, [], ◌++◌, is_ok, is_err, Ok, Err, Result, sym, refl, ap, ◌∙◌, append-nil, arith}
 use Rattle.std.proofs.lemmas.Bool.{false≢true}
 use Rattle.std.specs.declared.alloc.AllocError.{AllocError}
 use Rattle.ordered.specs.Files.{told, left}

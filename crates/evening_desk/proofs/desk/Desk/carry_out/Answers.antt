@@ -1,5 +1,5 @@
 -- Each form's letter picks the definition whose words its arm looks up.
-use Rattle.std.proofs.Common.{Ok, sym, refl, ap, ◌∙◌}
+use Rattle.std.proofs.Common.{Ok, refl, ap}
 use Rattle.ordered.specs.Files.{told}
 use Rattle.evening_desk.specs.Evening.{held, account, onward}
 use Rattle.evening_desk.proofs.Looking.{left_looked, left_looked_twice}
@@ -26,11 +26,11 @@ returns-in-Transfer c =
       memory = λ _. refl;
     }
 
-pub returns-in_ok-account : goal.returns-in_ok-account
-returns-in_ok-account c =
+pub returns-in_ok-account-in-Reading : goal.returns-in_ok-account-in-Reading
+returns-in_ok-account-in-Reading c =
     let h = held c.args.self.now in
     rw c.in-Reading.is record {
-      answers = ap (λ a. told (onward a (λ _. Ok h))) c.in_ok-account.ensures;
+      answers = ap (λ a. told (onward a (λ _. Ok h))) c.in_ok-account-in-Reading.ensures;
       after = left_looked h (account h c.in-Reading.account.now);
       memory = λ _. refl;
     }
