@@ -1,8 +1,8 @@
 -- What feeding bytes does: bytes without an LF are kept, an LF ends the line, and one list of bytes after another is the two together.
-use Rattle.std.proofs.Common.{◌≡◌, ℕ, zero, suc, ◌+◌, ◌-◌, ◌<◌, ◌≤◌, min, Bool, true, false, cond, not, ◌&&◌, eqb, ◌⊎◌, List, [], ◌∷◌, ◌++◌, length, get_or, take, drop, is_err, Some, Ok, Err, Result, sym, refl, ap, ◌∙◌, subst, inl, inr, ⊎_elim, append_assoc, append-nil, zero-add, arith}
+use Rattle.std.proofs.Common.{◌≡◌, ℕ, zero, suc, ◌+◌, ◌-◌, ◌≤◌, min, true, false, eqb, List, [], ◌∷◌, ◌++◌, length, take, drop, is_err, Some, Ok, Err, Result, sym, refl, ap, ◌∙◌, ⊎_elim, append_assoc, append-nil, zero-add, arith}
 use Rattle.std.specs.declared.alloc.AllocError.{AllocError}
 use Rattle.std.proofs.lemmas.List.{take_all, take_rest, take-append-drop, length-take}
-use Rattle.std.proofs.lemmas.Bool.{both_ways, cases_lt, cond-true, cond-false, and_parts, and_from, not-true, not_from_false, ne_eqb}
+use Rattle.std.proofs.lemmas.Bool.{both_ways, cases_lt, cond-false, and_parts, and_from, not-true, not_from_false, ne_eqb}
 use Rattle.evening_stream.specs.Input.{State, clipped, ended, ended_says, goes_on, step, step_says, fed, says, no_end, FirstLine, LineEnded}
 
 -- the front of two lists one after the other, where the first lies within it

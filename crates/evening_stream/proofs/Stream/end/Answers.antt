@@ -1,4 +1,4 @@
-use Rattle.std.proofs.Common.{◌≡◌, ◌<◌, ◌≤◌, List, [], ◌∷◌, length, take, vec_items, sym, refl, ap, ◌∙◌, subst, append-nil, arith, rules}
+use Rattle.std.proofs.Common.{◌≡◌, ◌<◌, ◌≤◌, length, take, vec_items, ap, arith, rules}
 use Rattle.std.proofs.lemmas.List.{length-take}
 use Rattle.evening_stream.specs.Input.{state_of}
 use Rattle.evening_stream.proofs.Cutting.{whole_output, finished_none, finished_some}

@@ -1,5 +1,4 @@
-use Rattle.std.proofs.Common.{◌≡◌, ◌-◌, ◌++◌, take, vec_items, sym, ap, ◌∙◌, subst, arith}
-use Rattle.evening_desk.specs.Evening.{held}
+use Rattle.std.proofs.Common.{◌++◌, take, vec_items, sym, ap, ◌∙◌, arith}
 use Rattle.evening_stream.specs.Input.{state_of, clipped}
 use Rattle.evening_stream.proofs.Clipping.{line_ended, clipped-clipped}
 use Rattle.evening_stream.proofs.Stream.end_line.Goals as goal
