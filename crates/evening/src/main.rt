@@ -13,12 +13,17 @@ const ACCOUNTS: usize = 32;
 // How many bytes are read at a time.
 const BLOCK: usize = 65536;
 
-// Writes what was printed, also where the memory to print more was wanting.
-fn write_out(rt: &HostRuntime, out: &[u8], fed: Result<(), Stop>) -> io::Result<()> {
+// Writes what was printed, also where the memory to print more was wanting: then what was wanting is told.
+fn write_out(
+    rt: &HostRuntime,
+    out: &[u8],
+    fed: Result<(), Stop>,
+    wanting: &'static str,
+) -> io::Result<()> {
     rt.stdout().write_all(out)?;
     match fed {
         Ok(()) => Ok(()),
-        Err(Stop::Memory { .. }) => Err(io::Error::other("no memory to print a line")),
+        Err(Stop::Memory { .. }) => Err(io::Error::other(wanting)),
     }
 }
 
@@ -35,11 +40,11 @@ fn work(rt: &HostRuntime, desk: &mut Desk<'_, '_>) -> io::Result<()> {
             break;
         }
         let fed = stream.feed(desk, heap, &block[0..n], &mut out);
-        write_out(rt, &out, fed)?;
+        write_out(rt, &out, fed, "no memory to print a line")?;
         out.clear();
     }
     let ended = stream.end(desk, heap, &mut out);
-    write_out(rt, &out, ended)
+    write_out(rt, &out, ended, "no memory to print the last line")
 }
 
 fn main(rt: HostRuntime) -> io::Result<()> {
