@@ -1,10 +1,10 @@
 // Runs an evening: reads an evening file from standard input in blocks as it arrives, and prints to standard output.
 #![tactic(auto)]
 
+use anyhow::anyhow;
 use directory::{Directory, Entry};
 use evening_desk::Desk;
 use evening_stream::{Stop, Stream};
-use std::io;
 use std::io::{Read, Write};
 
 // How many accounts an evening may have.
@@ -19,16 +19,16 @@ fn write_out(
     out: &[u8],
     fed: Result<(), Stop>,
     wanting: &'static str,
-) -> io::Result<()> {
+) -> anyhow::Result<()> {
     rt.stdout().write_all(out)?;
     match fed {
         Ok(()) => Ok(()),
-        Err(Stop::Memory { .. }) => Err(io::Error::other(wanting)),
+        Err(Stop::Memory { .. }) => Err(anyhow!("{wanting}")),
     }
 }
 
 // Feeds standard input to the desk, block by block, to its end.
-fn work(rt: &HostRuntime, desk: &mut Desk<'_, '_>) -> io::Result<()> {
+fn run(rt: &HostRuntime, desk: &mut Desk<'_, '_>) -> anyhow::Result<()> {
     let heap = rt.alloc();
     let mut stream = Stream::new();
     let mut block = vec![in heap; 0u8; BLOCK]?;
@@ -47,9 +47,9 @@ fn work(rt: &HostRuntime, desk: &mut Desk<'_, '_>) -> io::Result<()> {
     write_out(rt, &out, ended, "no memory to print the last line")
 }
 
-fn main(rt: HostRuntime) -> io::Result<()> {
+fn main(rt: HostRuntime) -> anyhow::Result<()> {
     let mut account_memory = [Entry::NONE; ACCOUNTS];
     let mut accounts = Directory::open(&mut account_memory);
     let mut desk = Desk::new(&mut accounts);
-    work(&rt, &mut desk)
+    run(&rt, &mut desk)
 }
