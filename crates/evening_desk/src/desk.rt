@@ -19,7 +19,7 @@ pub struct Desk<'d, 'a> {
 impl<'d, 'a> Desk<'d, 'a> {
     // A desk over a directory of accounts.
     pub fn new(accounts: &'d mut Directory<'a>) -> Self
-        ensures { held result ≡ record { accounts = entries accounts.entry.now; most = places accounts.entry.now } }
+        ensures { held result ≡ record { accounts = entries accounts.old; most = places accounts.old } }
     {
         Desk { accounts }
     }
