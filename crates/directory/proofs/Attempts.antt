@@ -1,13 +1,17 @@
 -- After any attempts, the directory answers by the accepted ones alone.
-use Rattle.std.proofs.Common.{◌≡◌, ℕ, suc, Bool, true, false, cond, not, ◌&&◌, ltb, List, [], ◌∷◌, length, is_some, Some, None, Ok, Err, Option, sym, refl, ap, ◌∙◌, subst, ⊎_elim, arith}
+use Rattle.std.proofs.Common.{◌≡◌, ℕ, suc, Bool, true, false, cond, not, ◌&&◌, ltb, List, [], ◌∷◌, map, length, is_some, Some, None, Ok, Err, Option, Result, sym, refl, ap, ◌∙◌, subst, ⊎_elim, arith}
 use Rattle.std.specs.Option.{ok_or}
 use Rattle.std.proofs.lemmas.Bool.{both_ways, cases_Bool, cond-true, cond-false, and_parts, not-true}
-use Rattle.ordered.specs.Files.{left}
+use Rattle.ordered.specs.declared.file.InsertFault.{InsertFault}
+use Rattle.ordered.specs.declared.file.OrderedFile.{OrderedFile}
+use Rattle.ordered.specs.Files.{in_use, room, Ascends, insertion, told, left}
+use Rattle.terms.specs.declared.faults.DirectoryFault.{DirectoryFault}
 use Rattle.terms.specs.declared.faults.DirectoryFault.TheVariants.{Form, Present, Full, Missing}
-use Rattle.directory.specs.Codes.{well_formed, precedes}
-use Rattle.directory.specs.Entries.{Listed, same, number_in, with, entering, finding}
+use Rattle.directory.specs.declared.code.Entry.{Entry}
+use Rattle.directory.specs.Codes.{well_formed, precedes, text_of, earlier}
+use Rattle.directory.specs.Entries.{Listed, listed, same, number_in, with, entering, finding}
 use Rattle.directory.specs.Promise.{accepted, filled}
-use Rattle.directory.proofs.Lookups.{same_self, same_is}
+use Rattle.directory.proofs.Lookups.{same_self, same_is, retold_answer, entered, answered}
 
 none_from : (o : Option ℕ) → is_some o ≡ false → o ≡ None
 none_from None e = refl
@@ -84,3 +88,24 @@ finding-accepted n attempts c = ap (λ o. cond (well_formed c) (ok_or o Missing)
 pub goes_on : (n n' : ℕ) (es es' : List Listed) (a : Listed) → n' ≡ n → es' ≡ left es (entering n es a.code a.number) → (attempts : List Listed) → es ≡ filled n attempts → es' ≡ filled n' (a ∷ attempts)
 goes_on n n' es es' a room after attempts held =
     after ∙ ap (λ l. left l (entering n l a.code a.number)) held ∙ ap (λ m. left (filled m attempts) (entering m (filled m attempts) a.code a.number)) (sym room)
+
+-- what an insertion into the file of a directory tells: its answer, the entries after it, and those after any attempts and this one
+pub record Attempted (n n' : ℕ) (es es' : List Listed) (a : Listed) (r : Result (Unit {0}) DirectoryFault) : Type 0 where
+  pub answers : r ≡ told (entering n es a.code a.number)
+  pub items : es' ≡ left es (entering n es a.code a.number)
+  pub attempts : (attempts : List Listed) → es ≡ filled n attempts → es' ≡ filled n' (a ∷ attempts)
+
+pub attempted : (f : OrderedFile Entry) (e : Entry) (c : List ℕ) → text_of e ≡ c → well_formed c ≡ true → Ascends earlier (in_use f) → (f' : OrderedFile Entry) (r : Result (Unit {0}) InsertFault)
+    → r ≡ told (insertion earlier (room f) (in_use f) e) → in_use f' ≡ left (in_use f) (insertion earlier (room f) (in_use f) e) → room f' ≡ room f
+    → Attempted (room f) (room f') (map listed (in_use f)) (map listed (in_use f')) (record { code = c; number = e.number }) (retold_answer r)
+attempted f e c is w up f' r answer after memory =
+    let items = entered f e c is w up f' after in
+    record { answers = answered f e c is w up r answer; items = items; attempts = goes_on (room f) (room f') (map listed (in_use f)) (map listed (in_use f')) (record { code = c; number = e.number }) memory items }
+
+-- what a look-up answers, it answers by the accepted attempts alone
+pub record Found (n : ℕ) (es : List Listed) (c : List ℕ) (r : Result ℕ DirectoryFault) : Type 0 where
+  pub value : r ≡ finding es c
+  pub accepted : (attempts : List Listed) → es ≡ filled n attempts → r ≡ finding (accepted n attempts) c
+
+pub found : (n : ℕ) (es : List Listed) (c : List ℕ) (r : Result ℕ DirectoryFault) → r ≡ finding es c → Found n es c r
+found n es c r answer = record { value = answer; accepted = λ attempts held. answer ∙ ap (λ l. finding l c) held ∙ finding-accepted n attempts c }

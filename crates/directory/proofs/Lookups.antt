@@ -1,19 +1,19 @@
 -- What the ordered file tells of entries is what the list of codes and numbers says.
-use Rattle.std.proofs.Common.{◌≡◌, ℕ, zero, suc, ◌<◌, Bool, true, false, cond, ltb, List, [], ◌∷◌, map, length, get_or, is_some, Some, None, Ok, Err, Result, sym, refl, ap, ◌∙◌, subst, ⊎_elim, arith}
+use Rattle.std.proofs.Common.{◌≡◌, ℕ, zero, suc, ◌<◌, Bool, true, false, cond, ltb, List, [], ◌∷◌, map, length, get_or, is_some, is_ok, Some, None, Ok, Err, Result, sym, refl, ap, ◌∙◌, subst, ⊎_elim, arith}
 use Rattle.std.specs.Option.{ok_or}
 use Rattle.std.proofs.lemmas.List.{length-map}
-use Rattle.std.proofs.lemmas.Bool.{false≢true, both_ways, cases_Bool, cases_lt, cond-true, cond-false, eq-eqb, eqb-true, and_parts, and_from}
+use Rattle.std.proofs.lemmas.Bool.{false_from_ne_true, false≢true, both_ways, cases_Bool, cases_lt, cond-true, cond-false, eq-eqb, eqb-true, and_parts, and_from}
 use Rattle.ordered.specs.Files.{in_use, room, Ascends, place, holds, ToldByPlace, filed, insertion, told, left}
 use Rattle.ordered.specs.declared.file.OrderedFile.{OrderedFile}
 use Rattle.ordered.specs.declared.file.InsertFault.{InsertFault}
 use Rattle.ordered.specs.declared.file.InsertFault.TheVariants as ordered
-use Rattle.ordered.proofs.Order.{false_from_not, Ascends-far}
+use Rattle.ordered.proofs.Order.{Ascends-far}
 use Rattle.ordered.proofs.Places.{told_by_place}
 use Rattle.directory.specs.declared.code.Entry.{Entry}
 use Rattle.terms.specs.declared.faults.DirectoryFault.{DirectoryFault}
 use Rattle.terms.specs.declared.faults.DirectoryFault.TheVariants.{Form, Present, Full, Missing}
 use Rattle.directory.specs.Codes.{well_formed, precedes, text_of, earlier}
-use Rattle.directory.specs.Faults.{as_fault}
+use Rattle.terms.specs.Faults.{as_directory}
 use Rattle.directory.specs.Entries.{Listed, listed, same, number_in, with, entering, finding}
 use Rattle.directory.specs.Ranks.{precedes_self, by_code}
 
@@ -29,10 +29,10 @@ same_is (x ∷ xs) (y ∷ ys) e = let p = and_parts _ _ e in let h = eqb-true x 
 
 -- codes of which one comes before the other are not the same
 pub apart_before : (xs ys : List ℕ) → precedes xs ys ≡ true → same xs ys ≡ false
-apart_before xs ys p = false_from_not _ (λ e. both_ways _ (precedes_self ys) (subst (λ l. precedes l ys ≡ true) (same_is xs ys e) p))
+apart_before xs ys p = false_from_ne_true _ (λ e. both_ways _ (precedes_self ys) (subst (λ l. precedes l ys ≡ true) (same_is xs ys e) p))
 
 pub apart_after : (xs ys : List ℕ) → precedes ys xs ≡ true → same xs ys ≡ false
-apart_after xs ys p = false_from_not _ (λ e. both_ways _ (precedes_self ys) (subst (λ l. precedes ys l ≡ true) (same_is xs ys e) p))
+apart_after xs ys p = false_from_ne_true _ (λ e. both_ways _ (precedes_self ys) (subst (λ l. precedes ys l ≡ true) (same_is xs ys e) p))
 
 -- the first entry of a code has its number
 number_in_first : (xs : List Entry) (c : List ℕ) (i : ℕ) (d : Entry) → i < length xs → ((j : ℕ) → j < i → same (text_of (get_or xs j d)) c ≡ false) → text_of (get_or xs i d) ≡ c → number_in (map listed xs) c ≡ Some (get_or xs i d).number
@@ -75,7 +75,7 @@ with-filed e (x ∷ xs) =
 -- the ordered file's outcome, as the directory tells it
 abbrev pub retold : Result (List Entry) InsertFault → Result (List Listed) DirectoryFault
 retold (Ok xs) = Ok (map listed xs)
-retold (Err e) = Err (as_fault e)
+retold (Err e) = Err (as_directory e)
 
 pub entering_is : (n : ℕ) (xs : List Entry) (e : Entry) → Ascends earlier xs → well_formed (text_of e) ≡ true → entering n (map listed xs) (text_of e) e.number ≡ retold (insertion earlier n xs e)
 entering_is n xs e up w =
@@ -92,7 +92,7 @@ entering_is n xs e up w =
 -- the answer to an insertion, as the directory tells it
 abbrev pub retold_answer : Result (Unit {0}) InsertFault → Result (Unit {0}) DirectoryFault
 retold_answer (Ok u) = Ok u
-retold_answer (Err e) = Err (as_fault e)
+retold_answer (Err e) = Err (as_directory e)
 
 left-retold : (xs : List Entry) (o : Result (List Entry) InsertFault) → map listed (left xs o) ≡ left (map listed xs) (retold o)
 left-retold xs (Ok ys) = refl
@@ -122,7 +122,8 @@ module _ (f : OrderedFile Entry) (e : Entry) (c : List ℕ) (is : text_of e ≡ 
       sym (cond-true (well_formed c) (ok_or (number_in (map listed (in_use f)) c) Missing) (Err Form) w
       ∙ ap (λ o. ok_or o Missing) (ap (number_in (map listed (in_use f))) (sym is) ∙ looked_up (in_use f) e up (Ok i) t d))
 
-  pub found_none : (i : ℕ) → ToldByPlace earlier text_of e (in_use f) (Err i) → Err Missing ≡ finding (map listed (in_use f)) c
-  found_none i t =
+  pub found_none : (r : Result ℕ ℕ) → is_ok r ≡ false → ToldByPlace earlier text_of e (in_use f) r → Err Missing ≡ finding (map listed (in_use f)) c
+  found_none (Ok i) none t = absurd (false≢true (sym none))
+  found_none (Err i) none t =
       sym (cond-true (well_formed c) (ok_or (number_in (map listed (in_use f)) c) Missing) (Err Form) w
       ∙ ap (λ o. ok_or o Missing) (ap (number_in (map listed (in_use f))) (sym is) ∙ looked_up (in_use f) e up (Err i) t))

@@ -1,13 +1,12 @@
 // The calls on a directory: open, enter and find.
 ghost use Rattle.std.specs.Prelude.{◌≡◌, ℕ, true, List, [], ◌∷◌, length, is_err};
 ghost use Rattle.ordered.specs.Files.{told, left};
-ghost use Rattle.directory.specs.Faults.{as_fault};
 ghost use Rattle.directory.specs.Entries.{entries, stored, places, entering, finding};
 ghost use Rattle.directory.specs.Promise.{GoesOn, FoundAsAccepted};
 
 use crate::Directory;
 use crate::code::{Code, Entry};
-use ordered::{InsertFault, OrderedFile};
+use ordered::OrderedFile;
 use terms::DirectoryFault;
 
 impl<'a> Directory<'a> {
@@ -28,13 +27,9 @@ impl<'a> Directory<'a> {
         ensures same { is_err result ≡ true → stored self.new ≡ stored self.old }
         ensures attempts { GoesOn self.old self.new code.now number }
     {
-        let Some(code) = Code::new(code) else {
-            return Err(DirectoryFault::Form);
-        };
-        match self.file.insert(Entry { code, number }) {
-            Ok(()) => Ok(()),
-            Err(fault) => Err(as_fault(fault)),
-        }
+        let code = Code::try_from(code)?;
+        self.file.insert(Entry { code, number })?;
+        Ok(())
     }
 
     // The number of a code. Refused: 1 another form, 4 no entry has it. After any sequence of entries, every code that was
@@ -43,13 +38,12 @@ impl<'a> Directory<'a> {
         ensures value { result ≡ finding (entries self.now) code.now }
         ensures accepted { FoundAsAccepted self.now code.now result }
     {
-        let Some(code) = Code::new(code) else {
-            return Err(DirectoryFault::Form);
-        };
-        match self.file.find(&Entry { code, number: 0 }) {
-            Ok(at) => Ok(self.file.used()[at].number),
-            Err(_) => Err(DirectoryFault::Missing),
-        }
+        let code = Code::try_from(code)?;
+        let at = self
+            .file
+            .find(&Entry { code, number: 0 })
+            .map_err(|_| DirectoryFault::Missing)?;
+        Ok(self.file.used()[at].number)
     }
 
     // How many entries are in use.
@@ -57,15 +51,5 @@ impl<'a> Directory<'a> {
         ensures { result ≡ length (entries self.now) }
     {
         self.file.used().len()
-    }
-}
-
-// What the ordered file refuses, as the directory tells it.
-fn as_fault(fault: InsertFault) -> DirectoryFault
-    ensures { result ≡ as_fault fault }
-{
-    match fault {
-        InsertFault::Present => DirectoryFault::Present,
-        InsertFault::Full => DirectoryFault::Full,
     }
 }

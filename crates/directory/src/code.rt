@@ -1,23 +1,20 @@
 // Codes of accounts and contracts, and the directory's entries.
-ghost use Rattle.std.specs.Prelude.{◌≡◌, ℕ, ◌≤◌, true, false, length, MatchOption};
-ghost use Rattle.directory.specs.Codes.{code_byte, code_bytes, well_formed, text, text_of, earlier};
-ghost use Rattle.directory.specs.Ranks.{by_code};
-
-use ordered::Rank;
-use std::cmp::Ordering;
+ghost use Rattle.std.specs.Prelude.{◌≤◌};
 
 // The longest code, in bytes.
 pub const MAX_CODE: usize = 12;
 
-// A code: its bytes at the front, zeros behind them.
-#[derive(Clone, Copy)]
+// A code: its bytes at the front, zeros behind them. The memory is fixed, and a constant entry fills it before its first use: the kit's string of
+// fixed capacity cannot be made in a constant.
+#[derive(Clone, Copy, Debug, PartialEq, Eq)]
 pub struct Code {
-    bytes: [u8; MAX_CODE],
-    len: usize,
+    pub(crate) bytes: [u8; MAX_CODE],
+    pub(crate) len: usize,
+    ghost few: { len ≤ 12 },
 }
 
 // A code with its number.
-#[derive(Clone, Copy)]
+#[derive(Clone, Copy, Debug, PartialEq, Eq)]
 pub struct Entry {
     pub code: Code,
     pub number: u32,
@@ -32,59 +29,4 @@ impl Entry {
         },
         number: 0,
     };
-}
-
-// Entries rank by the bytes of their codes.
-impl Rank for Entry {
-    ghost fields = { text_of };
-
-    ghost before = { earlier };
-
-    ghost lawful = { by_code };
-
-    fn rank(&self, other: &Entry) -> Ordering {
-        self.code.text().cmp(other.code.text())
-    }
-}
-
-impl Code {
-    // The code with these bytes, or none where they are no code.
-    pub(crate) fn new(bytes: &[u8]) -> Option<Code>
-        ensures { MatchOption result (well_formed bytes.now ≡ false) (λ c. (well_formed bytes.now ≡ true) × (text c ≡ bytes.now)) }
-    {
-        let len = bytes.len();
-        if len < 1 || len > MAX_CODE || !all_code_bytes(bytes) {
-            return None;
-        }
-        let mut padded = [0; MAX_CODE];
-        padded[0..len].copy_from_slice(bytes);
-        Some(Code { bytes: padded, len })
-    }
-
-    // The code's bytes.
-    pub(crate) fn text(&self) -> &[u8]
-        ensures { result.now ≡ text self.now }
-    {
-        let n = self.len.min(MAX_CODE);
-        &self.bytes[0..n]
-    }
-}
-
-// Whether every byte may stand in a code.
-fn all_code_bytes(bytes: &[u8]) -> bool
-    ensures { result ≡ code_bytes bytes.now }
-{
-    for b in bytes {
-        if !is_code_byte(*b) {
-            return false;
-        }
-    }
-    true
-}
-
-// Whether a byte may stand in a code.
-fn is_code_byte(b: u8) -> bool
-    ensures { result ≡ code_byte b }
-{
-    matches!(b, b'A'..=b'Z' | b'0'..=b'9')
 }

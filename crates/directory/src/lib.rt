@@ -1,9 +1,10 @@
 // The directory: codes with their numbers, ranked by the bytes of the codes, in memory that its user lends.
 #![tactic(auto)]
 
-ghost use Rattle.ordered.specs.Files.{in_use, Sized, Ascends};
+ghost use Rattle.ordered.specs.Files.{in_use, Ascends};
 ghost use Rattle.directory.specs.Codes.{earlier};
 
+mod bytes;
 mod calls;
 mod code;
 
@@ -14,6 +15,5 @@ use ordered::OrderedFile;
 #[derive(Drop)]
 pub struct Directory<'a> {
     file: OrderedFile<'a, Entry>,
-    ghost sized: { Sized file },
     ghost ascends: { Ascends earlier (in_use file) },
 }

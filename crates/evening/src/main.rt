@@ -4,7 +4,7 @@
 use anyhow::anyhow;
 use directory::{Directory, Entry};
 use evening_desk::Desk;
-use evening_stream::{Stop, Stream};
+use evening_stream::Stream;
 use std::io::{Read, Write};
 
 // How many accounts an evening may have.
@@ -13,38 +13,29 @@ const ACCOUNTS: usize = 32;
 // How many bytes are read at a time.
 const BLOCK: usize = 65536;
 
-// Writes what was printed, also where the memory to print more was wanting: then what was wanting is told.
-fn write_out(
-    rt: &HostRuntime,
-    out: &[u8],
-    fed: Result<(), Stop>,
-    wanting: &'static str,
-) -> anyhow::Result<()> {
-    rt.stdout().write_all(out)?;
-    match fed {
-        Ok(()) => Ok(()),
-        Err(Stop::Memory { .. }) => Err(anyhow!("{wanting}")),
-    }
-}
-
-// Feeds standard input to the desk, block by block, to its end.
+// Feeds standard input to the desk, block by block, to its end. What was printed is written also where the memory to print more was
+// wanting; the error tells so then.
 fn run(rt: &HostRuntime, desk: &mut Desk<'_, '_>) -> anyhow::Result<()> {
-    let heap = rt.alloc();
     let mut stream = Stream::new();
-    let mut block = vec![in heap; 0u8; BLOCK]?;
-    let mut out = Vec::new(heap);
+    let mut block = vec![in rt.alloc(); 0u8; BLOCK]?;
+    let mut out = Vec::new(rt.alloc());
     let mut input = rt.stdin();
+    // To the end of the input, by a count that no input reaches: a loop must be known to end, and the library goes over lines and bytes by itself, not
+    // over blocks.
     for _ in 0..u64::MAX {
         let n = input.read(&mut block)?;
         if n == 0 {
             break;
         }
-        let fed = stream.feed(desk, heap, &block[0..n], &mut out);
-        write_out(rt, &out, fed, "no memory to print a line")?;
+        let fed = stream.feed(desk, &block[..n], &mut out);
+        rt.stdout().write_all(&out)?;
+        fed.map_err(|_| anyhow!("no memory to print a line"))?;
         out.clear();
     }
-    let ended = stream.end(desk, heap, &mut out);
-    write_out(rt, &out, ended, "no memory to print the last line")
+    // The same two steps once more: a function for them would be handed the answer and the words for it.
+    let ended = stream.end(desk, &mut out);
+    rt.stdout().write_all(&out)?;
+    ended.map_err(|_| anyhow!("no memory to print the last line"))
 }
 
 fn main(rt: HostRuntime) -> anyhow::Result<()> {

@@ -1,7 +1,7 @@
 -- What the desk holds, what a line does to it, and what is printed of the line.
-use Rattle.std.specs.Prelude.{◌≡◌, ℕ, min, List, [], ◌∷◌, ◌++◌, length, Ok, Err, codes, decimal, Result}
+use Rattle.std.specs.Prelude.{◌≡◌, ℕ, min, true, List, [], ◌∷◌, ◌++◌, length, is_err, Ok, Err, codes, decimal, Result}
 use Rattle.std.specs.declared.alloc.AllocError.{AllocError}
-use Rattle.ordered.specs.Files.{left}
+use Rattle.ordered.specs.Files.{told, left}
 use Rattle.ordered.specs.declared.file.OrderedFile.{OrderedFile}
 use Rattle.directory.specs.declared.code.Entry.{Entry}
 use Rattle.terms.specs.declared.faults.DirectoryFault.{DirectoryFault}
@@ -77,6 +77,12 @@ unless_reader h (Err e) = Err (Reader e)
 -- a line's outcome: the reader's refusal, or that of what the line says
 abbrev pub outcome : Held → List ℕ → Result Held LineFault
 outcome h line = unless_reader h (line_said line)
+
+-- what carrying out leaves: the desk of the outcome, or where it is refused the desk as it was, down to the memory behind it
+pub record Carries (d : Desk) (due : Result Held LineFault) (answer : Result (Unit {0}) LineFault) (d' : Desk) : Type 0 where
+  pub answered : answer ≡ told due
+  pub leaves : held d' ≡ left (held d) due
+  pub untouched : is_err answer ≡ true → memory d' ≡ memory d
 
 -- `line 8 directory 4`, with LF at the end
 abbrev pub refusal_text : ℕ → LineFault → List ℕ

@@ -1,8 +1,8 @@
 -- The value of digits, as it grows from the front, and its bound.
-use Rattle.std.proofs.Common.{◌≡◌, ℕ, ◌+◌, ◌-◌, ◌*◌, ◌^◌, ◌<◌, ◌≤◌, true, false, ◌&&◌, eqb, leb, List, [], ◌∷◌, length, get_or, take, drop, pos, neg_ℤ, Some, None, sym, refl, ap, ◌∙◌, pow-suc, add-one, arith, lit<}
+use Rattle.std.proofs.Common.{◌≡◌, ℕ, ◌+◌, ◌-◌, ◌*◌, ◌^◌, ◌<◌, ◌≤◌, true, ◌&&◌, eqb, List, [], ◌∷◌, length, get_or, take, drop, pos, neg_ℤ, sym, refl, ap, ◌∙◌, pow-suc, add-one, arith, lit<}
 use native.Mathlib.Nat.{pow-le-pow_right}
-use Rattle.std.proofs.lemmas.List.{take_rest, at_drop_more, at_drop_all}
-use Rattle.std.proofs.lemmas.Bool.{cond-true, cond-false, and_from, and_left, and_right, le-leb, eq-eqb, ne_eqb}
+use Rattle.std.proofs.lemmas.List.{take_rest, at_drop_more}
+use Rattle.std.proofs.lemmas.Bool.{cond-true, cond-false, eq-eqb, ne_eqb}
 use Rattle.std.specs.Option.{option_map}
 use Rattle.evening_file.specs.Numbers.{digit, digits, value, unsigned, number}
 
@@ -18,19 +18,6 @@ digits_more xs i h e = sym (at_drop_more digits xs i 0 h ∙ ap (λ b. b && digi
 
 pub value_more : (xs : List ℕ) (i v d : ℕ) → i < length xs → d ≡ get_or xs i 0 - 48 → value (v * 10 + d) (drop (i + 1) xs) ≡ value v (drop i xs)
 value_more xs i v d h e = ap (λ n. value (v * 10 + n) (drop (i + 1) xs)) e ∙ sym (at_drop_more (value v) xs i 0 h)
-
--- a byte that is no digit
-pub no_number : (xs : List ℕ) (i : ℕ) → i < length xs → digits (drop i xs) ≡ digits xs → digit (get_or xs i 0) ≡ false → unsigned xs ≡ None
-no_number xs i h same e =
-    let bad : digits xs ≡ false = sym same ∙ at_drop_more digits xs i 0 h ∙ and_left _ _ e in
-    cond-false _ (Some (value 0 xs)) _ (and_right (leb 1 (length xs)) _ (and_right (leb (length xs) 12) _ bad))
-
--- all of them were digits
-pub all_digits : (xs : List ℕ) (i v : ℕ) → i ≡ length xs → 1 ≤ length xs → length xs ≤ 12 → digits (drop i xs) ≡ digits xs → value v (drop i xs) ≡ value 0 xs → unsigned xs ≡ Some v
-all_digits xs i v end some few all is =
-    let good : digits xs ≡ true = sym all ∙ at_drop_all digits xs i (omega arith) in
-    let done : v ≡ value 0 xs = sym (at_drop_all (value v) xs i (omega arith)) ∙ is in
-    cond-true _ _ None (and_from _ _ (le-leb 1 (length xs) some) (and_from _ _ (le-leb (length xs) 12 few) good)) ∙ ap Some (sym done)
 
 -- a word that begins with a minus, and one that does not
 pub number_minus : (w : List ℕ) → 0 < length w → get_or w 0 0 ≡ 45 → number w ≡ option_map (λ n. neg_ℤ (pos n)) (unsigned (take (length w - 1) (drop 1 w)))

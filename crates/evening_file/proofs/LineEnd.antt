@@ -1,24 +1,24 @@
--- The search for the first LF, byte by byte.
-use Rattle.std.proofs.Common.{◌≡◌, ℕ, ◌+◌, ◌<◌, ◌≤◌, eqb, List, [], ◌∷◌, ◌++◌, length, get_or, take, drop, Some, None, Option, sym, ap, ◌∙◌}
-use Rattle.std.proofs.lemmas.List.{take_more, at_drop_more, at_drop_all}
-use Rattle.std.proofs.lemmas.Bool.{cond-true, cond-false, eq-eqb, ne_eqb}
+-- The bytes before the first LF, by its place.
+use Rattle.std.proofs.Common.{◌≡◌, ℕ, ◌+◌, suc, Bool, true, false, cond, not, eqb, ltb, List, [], ◌∷◌, length, take, Some, None, refl, ap, ◌∙◌, arith, add_comm, add-one}
+use Rattle.std.proofs.lemmas.Bool.Decides.{nat_tests}
+use Rattle.std.specs.List.{position, position_or_len}
 use Rattle.std.specs.Option.{option_map}
 use Rattle.evening_file.specs.Lines.{up_to}
-use Rattle.evening_file.proofs.Fronts.{front_more, front_all}
 
--- what the first i bytes give, none of them an LF, with what is still to come
-abbrev pub past : List ℕ → ℕ → Option (List ℕ)
-past xs i = option_map (λ l. take i xs ++ l) (up_to (drop i xs))
+-- the same place, counted from one byte further in front
+longer : (within : Bool) (c : ℕ) (cs : List ℕ) (n : ℕ) → option_map (λ l. c ∷ l) (option_map (λ k. take k cs) (cond within (Some n) None)) ≡ option_map (λ k. take k (c ∷ cs)) (cond within (Some (1 + n)) None)
+longer true c cs n = rw (add_comm 1 n, add-one n) refl
+longer false c cs n = refl
 
-pub past_more : (xs : List ℕ) (i : ℕ) → i < length xs → (get_or xs i 0 ≡ 10 → ⊥) → past xs i ≡ past xs (i + 1)
-past_more xs i h other =
-    let onward : up_to (drop i xs) ≡ option_map (λ l. get_or xs i 0 ∷ l) (up_to (drop (i + 1) xs)) = at_drop_more up_to xs i 0 h ∙ cond-false (eqb (get_or xs i 0) 10) _ _ (ne_eqb _ 10 other) in
-    ap (option_map (λ l. take i xs ++ l)) onward ∙ front_more (take i xs) (get_or xs i 0) (up_to (drop (i + 1) xs)) ∙ ap (λ f. option_map (λ l. f ++ l) (up_to (drop (i + 1) xs))) (sym (take_more xs i 0 h))
+closer : (n m : ℕ) → ltb (1 + n) (suc m) ≡ ltb n m
+closer n m = grind (arith, nat_tests)
 
-pub past_at_end : (xs : List ℕ) (i n : ℕ) → i < length xs → get_or xs i 0 ≡ 10 → n ≡ i → past xs i ≡ Some (take n xs)
-past_at_end xs i n h e same =
-    let here : up_to (drop i xs) ≡ Some [] = at_drop_more up_to xs i 0 h ∙ cond-true (eqb (get_or xs i 0) 10) _ _ (eq-eqb _ 10 e) in
-    ap (option_map (λ l. take i xs ++ l)) here ∙ front_all (take i xs) ∙ ap (λ k. Some (take k xs)) (sym same)
+-- one byte more in front, which is an LF or is not
+in_front : (here : Bool) (c : ℕ) (cs : List ℕ) (n m : ℕ) → cond here (Some []) (option_map (λ l. c ∷ l) (option_map (λ k. take k cs) (cond (ltb n m) (Some n) None))) ≡ option_map (λ k. take k (c ∷ cs)) (cond (ltb (cond (not here) (1 + n) 0) (suc m)) (Some (cond (not here) (1 + n) 0)) None)
+in_front true c cs n m = let first : ltb 0 (suc m) ≡ true = grind (arith, nat_tests) in rw first refl
+in_front false c cs n m = rw closer (longer (ltb n m) c cs n)
 
-pub past_none : (xs : List ℕ) (i : ℕ) → length xs ≤ i → past xs i ≡ None
-past_none xs i h = ap (option_map (λ l. take i xs ++ l)) (at_drop_all up_to xs i h)
+pub up_to_place : (xs : List ℕ) → up_to xs ≡ option_map (λ n. take n xs) (position (λ c. eqb c 10) xs)
+up_to_place [] = refl
+up_to_place (c ∷ cs) =
+    ap (λ o. cond (eqb c 10) (Some []) (option_map (λ l. c ∷ l) o)) (up_to_place cs) ∙ in_front (eqb c 10) c cs (position_or_len (λ b. eqb b 10) cs) (length cs)

@@ -1,10 +1,9 @@
 -- The letter words of a line: the style of a contract and the kind of a credit rule, exactly one byte each.
-use Rattle.std.specs.Prelude.{ℕ, cond, List, [], ◌∷◌, Some, None, Option, ◌==◌}
-use Rattle.terms.specs.Letters.{style_letter, kind_letter}
-use Rattle.terms.specs.declared.Style.{Style}
-use Rattle.terms.specs.declared.Style.TheVariants.{Future, Storable, Premium}
-use Rattle.terms.specs.declared.RuleKind.{RuleKind}
-use Rattle.terms.specs.declared.RuleKind.TheVariants.{Perfect, Regular}
+use Rattle.std.specs.Prelude.{ℕ, List, [], ◌∷◌, Some, None, Option, option_and_then}
+use Rattle.std.specs.Result.{result_ok}
+use Rattle.terms.specs.Letters.{style_named, kind_named}
+use Rattle.terms.specs.declared.letters.Style.{Style}
+use Rattle.terms.specs.declared.letters.RuleKind.{RuleKind}
 
 -- the one byte of a word
 abbrev pub only : List ℕ → Option ℕ
@@ -12,21 +11,10 @@ only [] = None
 only (c ∷ []) = Some c
 only (c ∷ d ∷ cs) = None
 
--- the style that a byte names
-abbrev pub style_by : Option ℕ → Option Style
-style_by None = None
-style_by (Some c) =
-    cond (c == style_letter Future) (Some Future) (cond (c == style_letter Storable) (Some Storable) (cond (c == style_letter Premium) (Some Premium) None))
-
 -- the style that a word names: F, S or P
 abbrev pub style : List ℕ → Option Style
-style w = style_by (only w)
-
--- the kind of rule that a byte names
-abbrev pub kind_by : Option ℕ → Option RuleKind
-kind_by None = None
-kind_by (Some c) = cond (c == kind_letter Perfect) (Some Perfect) (cond (c == kind_letter Regular) (Some Regular) None)
+style w = option_and_then (λ c. result_ok (style_named c)) (only w)
 
 -- the kind of rule that a word names: P or R
 abbrev pub rule_kind : List ℕ → Option RuleKind
-rule_kind w = kind_by (only w)
+rule_kind w = option_and_then (λ c. result_ok (kind_named c)) (only w)

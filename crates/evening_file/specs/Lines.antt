@@ -3,9 +3,9 @@
 -- A line is what stands before the first LF. 26: no LF, or over 400 bytes before it. 27: the letter, a letter word or the
 -- count of words is wrong, anywhere in the line. 28: a number of another form.
 use Rattle.std.specs.Prelude.{ℕ, cond, List, [], ◌∷◌, length, drop, ℤ, Some, None, Ok, Err, Option, Result, ◌==◌, nat_le, slice_index_or}
-use Rattle.std.specs.Option.{option_map}
-use Rattle.terms.specs.declared.Style.{Style}
-use Rattle.terms.specs.declared.RuleKind.{RuleKind}
+use Rattle.std.specs.Option.{option_map, ok_or}
+use Rattle.terms.specs.declared.letters.Style.{Style}
+use Rattle.terms.specs.declared.letters.RuleKind.{RuleKind}
 use Rattle.terms.specs.declared.faults.ReaderFault.{ReaderFault}
 use Rattle.terms.specs.declared.faults.ReaderFault.TheVariants.{Length, Form, Number}
 use Rattle.evening_file.specs.Letters.{style, rule_kind}
@@ -23,25 +23,33 @@ abbrev pub at : List (List ℕ) → ℕ → List ℕ
 at ws i = slice_index_or ws i []
 
 -- refused unless there is a value, which the rest of the line is read with
-abbrev pub given : {X : Type 0} → ReaderFault → Option X → (X → Result Said ReaderFault) → Result Said ReaderFault
-given f None k = Err f
-given f (Some x) k = k x
+abbrev pub given : {X : Type 0} → Result X ReaderFault → (X → Result Said ReaderFault) → Result Said ReaderFault
+given (Err f) k = Err f
+given (Ok x) k = k x
 
 -- 28 unless the word is a number
 abbrev pub numbered : List ℕ → (ℤ → Result Said ReaderFault) → Result Said ReaderFault
-numbered w k = given Number (number w) k
+numbered w k = given (ok_or (number w) Number) k
 
 -- 27 unless the word names a style
 abbrev pub styled : List ℕ → (Style → Result Said ReaderFault) → Result Said ReaderFault
-styled w k = given Form (style w) k
+styled w k = given (ok_or (style w) Form) k
 
 -- 27 unless the word names a kind of rule
 abbrev pub ruled : List ℕ → (RuleKind → Result Said ReaderFault) → Result Said ReaderFault
-ruled w k = given Form (rule_kind w) k
+ruled w k = given (ok_or (rule_kind w) Form) k
+
+-- a form of one code
+abbrev pub of_code : (List ℕ → Said) → List (List ℕ) → Result Said ReaderFault
+of_code says ws = counted 1 ws (Ok (says (at ws 0)))
+
+-- a form of a code and a number
+abbrev pub of_code_and_number : (List ℕ → ℤ → Said) → List (List ℕ) → Result Said ReaderFault
+of_code_and_number says ws = counted 2 ws (numbered (at ws 1) (λ number. Ok (says (at ws 0) number)))
 
 -- A account
 abbrev pub account : List (List ℕ) → Result Said ReaderFault
-account ws = counted 1 ws (Ok (said.Account (at ws 0)))
+account ws = of_code said.Account ws
 
 -- C number code style volume expiry price haircut: the style is looked at before the numbers
 abbrev pub contract : List (List ℕ) → Result Said ReaderFault
@@ -66,7 +74,7 @@ numbers (w ∷ ws) = before (number w) (numbers ws)
 -- O code commodity delta and sixteen losses
 abbrev pub option : List (List ℕ) → Result Said ReaderFault
 option ws =
-    counted 19 ws (numbered (at ws 1) (λ commodity. numbered (at ws 2) (λ delta. given Number (numbers (drop 3 ws)) (λ losses. Ok (said.Option (at ws 0) commodity delta losses)))))
+    counted 19 ws (numbered (at ws 1) (λ commodity. numbered (at ws 2) (λ delta. given (ok_or (numbers (drop 3 ws)) Number) (λ losses. Ok (said.Option (at ws 0) commodity delta losses)))))
 
 -- N commodity minimum
 abbrev pub minimum : List (List ℕ) → Result Said ReaderFault
@@ -84,7 +92,7 @@ trade ws =
 
 -- P code price
 abbrev pub price : List (List ℕ) → Result Said ReaderFault
-price ws = counted 2 ws (numbered (at ws 1) (λ paid. Ok (said.Price (at ws 0) paid)))
+price ws = of_code_and_number said.Price ws
 
 -- D
 abbrev pub close : List (List ℕ) → Result Said ReaderFault
@@ -92,7 +100,7 @@ close ws = counted 0 ws (Ok said.Close)
 
 -- E code price
 abbrev pub expiry : List (List ℕ) → Result Said ReaderFault
-expiry ws = counted 2 ws (numbered (at ws 1) (λ settled. Ok (said.Expiry (at ws 0) settled)))
+expiry ws = of_code_and_number said.Expiry ws
 
 -- M from to
 abbrev pub transfer : List (List ℕ) → Result Said ReaderFault
@@ -100,7 +108,7 @@ transfer ws = counted 2 ws (Ok (said.Transfer (at ws 0) (at ws 1)))
 
 -- R account
 abbrev pub reading : List (List ℕ) → Result Said ReaderFault
-reading ws = counted 1 ws (Ok (said.Reading (at ws 0)))
+reading ws = of_code said.Reading ws
 
 -- what stands behind the letter, which is a word of its own
 abbrev pub behind : List ℕ → (List (List ℕ) → Result Said ReaderFault) → Result Said ReaderFault

@@ -1,7 +1,8 @@
 -- What a line says, apart from where in the input its words stand.
-use Rattle.std.specs.Prelude.{ℕ, List, ℤ, Ok, Err, Result}
-use Rattle.terms.specs.declared.Style.{Style}
-use Rattle.terms.specs.declared.RuleKind.{RuleKind}
+use Rattle.std.specs.Prelude.{◌≡◌, ℕ, List, ℤ, Ok, Err, Result}
+use Rattle.std.specs.Borrow.{Bor}
+use Rattle.terms.specs.declared.letters.Style.{Style}
+use Rattle.terms.specs.declared.letters.RuleKind.{RuleKind}
 use Rattle.terms.specs.declared.faults.ReaderFault.{ReaderFault}
 use Rattle.evening_file.specs.declared.line.Line.{Line}
 use Rattle.evening_file.specs.declared.line.Line.TheVariants as line
@@ -40,3 +41,11 @@ said (line.Reading account) = Reading account.now
 abbrev pub seen : Result Line ReaderFault → Result Said ReaderFault
 seen (Ok l) = Ok (said l)
 seen (Err f) = Err f
+
+-- every instruction that is made of a code says what `says` gives for that code
+abbrev pub SaysOfCode : (Bor (List ℕ) → Line → Type 0) → (List ℕ → Said) → Type 0
+SaysOfCode makes says = (code : Bor (List ℕ)) (line : Line) → makes code line → said line ≡ says code.now
+
+-- every instruction that is made of a code and a number says what `says` gives for them
+abbrev pub SaysOfCodeAndNumber : (Bor (List ℕ) → ℤ → Line → Type 0) → (List ℕ → ℤ → Said) → Type 0
+SaysOfCodeAndNumber makes says = (code : Bor (List ℕ)) (number : ℤ) (line : Line) → makes code number line → said line ≡ says code.now number

@@ -1,9 +1,12 @@
 -- The words of a line. Only the space, byte 32, parts words; one or more of them do, and those at the end count for nothing.
-use Rattle.std.specs.Prelude.{◌≡◌, ℕ, ◌<◌, Bool, true, false, cond, ◌&&◌, List, [], ◌∷◌, ◌++◌, length, ℤ, Some, None, Option, ◌==◌, slice_index_or}
-use Rattle.std.specs.Option.{option_map}
+use Rattle.std.specs.Prelude.{◌≡◌, ℕ, ◌<◌, Bool, true, false, cond, ◌&&◌, List, [], ◌∷◌, ◌++◌, length, ℤ, Ok, Err, Result, ◌==◌, slice_index_or}
+use Rattle.std.specs.Option.{ok_or}
+use Rattle.terms.specs.declared.faults.ReaderFault.{ReaderFault}
+use Rattle.terms.specs.declared.faults.ReaderFault.TheVariants as fault
 use Rattle.evening_file.specs.declared.words.Word.{Word}
 use Rattle.evening_file.specs.declared.words.Words.{Words}
 use Rattle.evening_file.specs.declared.words.Word.TheVariants.{Code, Number, Letter}
+use Rattle.evening_file.specs.Letters.{only}
 use Rattle.evening_file.specs.Numbers.{number}
 
 -- a word that has come to its end, unless no byte of it came
@@ -47,25 +50,19 @@ is_letter (Letter b) = true
 abbrev pub left : Words → List (List ℕ)
 left ws = words ws.rest.now
 
--- the letter before these bytes is a word of its own, and n words follow it
-abbrev pub Followed : List ℕ → ℕ → Option Words → Type 0
-Followed rest n (Some ws) = (left ws ≡ words rest) × ((parted rest ≡ true) × (length (words rest) ≡ n))
-Followed rest n None = (parted rest && length (words rest) == n) ≡ false
+-- the letter before these bytes is a word of its own, and n words follow it; refused where they do not
+abbrev pub Followed : List ℕ → ℕ → Result Words ReaderFault → Type 0
+Followed rest n (Ok ws) = (left ws ≡ words rest) × ((parted rest ≡ true) × (length (words rest) ≡ n))
+Followed rest n (Err e) = (e ≡ fault.Form) × ((parted rest && length (words rest) == n) ≡ false)
 
 -- the next of the words s is handed out, and t is left
 abbrev pub Handed : Words → Words → List ℕ → Type 0
 Handed s t w = 0 < length (left s) → left s ≡ w ∷ left t
 
--- the same, as the value of a number
-abbrev pub Valued : Words → Words → Option ℤ → Type 0
-Valued s t o = 0 < length (left s) → (left s ≡ slice_index_or (left s) 0 [] ∷ left t) × (o ≡ number (slice_index_or (left s) 0 []))
+-- the next of the words s is handed out as the value of a number, or 28, and t is left
+abbrev pub Valued : Words → Words → Result ℤ ReaderFault → Type 0
+Valued s t r = 0 < length (left s) → (left s ≡ slice_index_or (left s) 0 [] ∷ left t) × (r ≡ ok_or (number (slice_index_or (left s) 0 [])) fault.Number)
 
--- both of two values
-abbrev pub both : {X Y : Type 0} → Option X → Option Y → Option (X × Y)
-both None o = None
-both (Some x) o = option_map (λ y. (x, y)) o
-
--- the next two of them, as the values of numbers
-abbrev pub Paired : Words → Words → Option (ℤ × ℤ) → Type 0
-Paired s t o =
-    1 < length (left s) → (left s ≡ slice_index_or (left s) 0 [] ∷ slice_index_or (left s) 1 [] ∷ left t) × (o ≡ both (number (slice_index_or (left s) 0 [])) (number (slice_index_or (left s) 1 [])))
+-- the next of the words s is handed out as the one byte of a letter word, or 27, and t is left
+abbrev pub Lettered : Words → Words → Result ℕ ReaderFault → Type 0
+Lettered s t r = 0 < length (left s) → (left s ≡ slice_index_or (left s) 0 [] ∷ left t) × (r ≡ ok_or (only (slice_index_or (left s) 0 [])) fault.Form)

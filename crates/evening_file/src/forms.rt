@@ -1,45 +1,56 @@
 // The twelve forms of a line: for each, its words in their order and what they say.
-ghost use Rattle.std.specs.Prelude.{◌≡◌, length};
-ghost use Rattle.evening_file.specs.Lines.{account, contract, future, numbers, option, minimum, rule, trade, price, close, expiry, transfer, reading, behind, formed};
-ghost use Rattle.evening_file.specs.Said.{seen};
+ghost use Rattle.std.specs.Prelude.{◌≡◌, ℕ, List, length, ℤ};
+ghost use Rattle.std.specs.Option.{ok_or};
+ghost use Rattle.terms.specs.declared.faults.ReaderFault.TheVariants.{Number};
+ghost use Rattle.evening_file.specs.Lines.{of_code, of_code_and_number, contract, future, numbers, option, minimum, rule, trade, close, transfer, behind, formed};
+ghost use Rattle.evening_file.specs.Said.{Said, seen, SaysOfCode, SaysOfCodeAndNumber};
 ghost use Rattle.evening_file.specs.Words.{left};
 
 use crate::line::{LOSSES, Line};
 use crate::words::Words;
-use terms::ReaderFault;
+use terms::{ReaderFault, RuleKind, Style};
 
-// Reads `A account`.
-fn read_account<'a>(rest: &'a [u8]) -> Result<Line<'a>, ReaderFault>
-    ensures { seen result ≡ behind rest.now account }
+// Reads the form of one code, of which `make` makes the instruction.
+fn read_code<'a, F: FnOnce(&'a [u8]) -> Line<'a>>(
+    rest: &'a [u8],
+    make: F,
+) -> Result<Line<'a>, ReaderFault>
+    requires { F.IsAlwaysCallable make }
+    ensures { (says : List ℕ → Said) → SaysOfCode (F.post make) says → seen result ≡ behind rest.now (of_code says) }
 {
-    let Some(mut words) = Words::after_letter(rest, 1) else {
-        return Err(ReaderFault::Form);
-    };
-    let account = words.text();
-    Ok(Line::Account { account })
+    let mut words = Words::after_letter(rest, 1)?;
+    let code = words.text();
+    Ok(make(code))
+}
+
+// Reads the form of a code and a number, of which `make` makes the instruction.
+fn read_code_and_number<'a, F: FnOnce(&'a [u8], i64) -> Line<'a>>(
+    rest: &'a [u8],
+    make: F,
+) -> Result<Line<'a>, ReaderFault>
+    requires { F.IsAlwaysCallable make }
+    ensures { (says : List ℕ → ℤ → Said)
+        → SaysOfCodeAndNumber (F.post make) says → seen result ≡ behind rest.now (of_code_and_number says) }
+{
+    let mut words = Words::after_letter(rest, 2)?;
+    let code = words.text();
+    let number = words.value()?;
+    Ok(make(code, number))
 }
 
 // Reads `C number code style volume expiry price haircut`; the style is looked at before the first number.
-fn read_contract<'a>(rest: &'a [u8]) -> Result<Line<'a>, ReaderFault>
+fn read_contract(rest: &[u8]) -> Result<Line<'_>, ReaderFault>
     ensures { seen result ≡ behind rest.now contract }
 {
-    let Some(mut words) = Words::after_letter(rest, 7) else {
-        return Err(ReaderFault::Form);
-    };
+    let mut words = Words::after_letter(rest, 7)?;
     let listed = words.number();
     let code = words.text();
-    let Some(style) = words.letter().style() else {
-        return Err(ReaderFault::Form);
-    };
-    let Some(number) = listed.value() else {
-        return Err(ReaderFault::Number);
-    };
-    let Some((volume, expiry)) = words.two_values() else {
-        return Err(ReaderFault::Number);
-    };
-    let Some((price, haircut)) = words.two_values() else {
-        return Err(ReaderFault::Number);
-    };
+    let style = Style::try_from(words.letter()?)?;
+    let number = listed.value()?;
+    let volume = words.value()?;
+    let expiry = words.value()?;
+    let price = words.value()?;
+    let haircut = words.value()?;
     Ok(Line::Contract {
         number,
         code,
@@ -52,16 +63,13 @@ fn read_contract<'a>(rest: &'a [u8]) -> Result<Line<'a>, ReaderFault>
 }
 
 // Reads `F code commodity range`.
-fn read_future<'a>(rest: &'a [u8]) -> Result<Line<'a>, ReaderFault>
+fn read_future(rest: &[u8]) -> Result<Line<'_>, ReaderFault>
     ensures { seen result ≡ behind rest.now future }
 {
-    let Some(mut words) = Words::after_letter(rest, 3) else {
-        return Err(ReaderFault::Form);
-    };
+    let mut words = Words::after_letter(rest, 3)?;
     let code = words.text();
-    let Some((commodity, range)) = words.two_values() else {
-        return Err(ReaderFault::Number);
-    };
+    let commodity = words.value()?;
+    let range = words.value()?;
     Ok(Line::Future {
         code,
         commodity,
@@ -70,30 +78,25 @@ fn read_future<'a>(rest: &'a [u8]) -> Result<Line<'a>, ReaderFault>
 }
 
 // Reads the sixteen losses of an option, each a number.
-fn read_losses(words: &mut Words<'_>) -> Option<[i64; LOSSES]>
-    ensures { length (left words.old) ≡ 16 → result ≡ numbers (left words.old) }
+fn read_losses(words: &mut Words<'_>) -> Result<[i64; LOSSES], ReaderFault>
+    ensures { length (left words.old) ≡ 16 → result ≡ ok_or (numbers (left words.old)) Number }
 {
     let mut losses = [0; LOSSES];
-    for i in 0..LOSSES {
-        losses[i] = words.value()?;
+    for loss in &mut losses {
+        *loss = words.value()?;
     }
-    Some(losses)
+    Ok(losses)
 }
 
 // Reads `O code commodity delta` and sixteen losses.
-fn read_option<'a>(rest: &'a [u8]) -> Result<Line<'a>, ReaderFault>
+fn read_option(rest: &[u8]) -> Result<Line<'_>, ReaderFault>
     ensures { seen result ≡ behind rest.now option }
 {
-    let Some(mut words) = Words::after_letter(rest, 3 + LOSSES) else {
-        return Err(ReaderFault::Form);
-    };
+    let mut words = Words::after_letter(rest, 3 + LOSSES)?;
     let code = words.text();
-    let Some((commodity, delta)) = words.two_values() else {
-        return Err(ReaderFault::Number);
-    };
-    let Some(losses) = read_losses(&mut words) else {
-        return Err(ReaderFault::Number);
-    };
+    let commodity = words.value()?;
+    let delta = words.value()?;
+    let losses = read_losses(&mut words)?;
     Ok(Line::Option {
         code,
         commodity,
@@ -103,34 +106,24 @@ fn read_option<'a>(rest: &'a [u8]) -> Result<Line<'a>, ReaderFault>
 }
 
 // Reads `N commodity minimum`.
-fn read_minimum<'a>(rest: &'a [u8]) -> Result<Line<'a>, ReaderFault>
+fn read_minimum(rest: &[u8]) -> Result<Line<'_>, ReaderFault>
     ensures { seen result ≡ behind rest.now minimum }
 {
-    let Some(mut words) = Words::after_letter(rest, 2) else {
-        return Err(ReaderFault::Form);
-    };
-    let Some((commodity, minimum)) = words.two_values() else {
-        return Err(ReaderFault::Number);
-    };
+    let mut words = Words::after_letter(rest, 2)?;
+    let commodity = words.value()?;
+    let minimum = words.value()?;
     Ok(Line::Minimum { commodity, minimum })
 }
 
 // Reads `X P|R commodity commodity credit`.
-fn read_rule<'a>(rest: &'a [u8]) -> Result<Line<'a>, ReaderFault>
+fn read_rule(rest: &[u8]) -> Result<Line<'_>, ReaderFault>
     ensures { seen result ≡ behind rest.now rule }
 {
-    let Some(mut words) = Words::after_letter(rest, 4) else {
-        return Err(ReaderFault::Form);
-    };
-    let Some(kind) = words.letter().rule_kind() else {
-        return Err(ReaderFault::Form);
-    };
-    let Some((first, second)) = words.two_values() else {
-        return Err(ReaderFault::Number);
-    };
-    let Some(credit) = words.value() else {
-        return Err(ReaderFault::Number);
-    };
+    let mut words = Words::after_letter(rest, 4)?;
+    let kind = RuleKind::try_from(words.letter()?)?;
+    let first = words.value()?;
+    let second = words.value()?;
+    let credit = words.value()?;
     Ok(Line::Rule {
         kind,
         first,
@@ -140,18 +133,15 @@ fn read_rule<'a>(rest: &'a [u8]) -> Result<Line<'a>, ReaderFault>
 }
 
 // Reads `T buyer seller code lots price`.
-fn read_trade<'a>(rest: &'a [u8]) -> Result<Line<'a>, ReaderFault>
+fn read_trade(rest: &[u8]) -> Result<Line<'_>, ReaderFault>
     ensures { seen result ≡ behind rest.now trade }
 {
-    let Some(mut words) = Words::after_letter(rest, 5) else {
-        return Err(ReaderFault::Form);
-    };
+    let mut words = Words::after_letter(rest, 5)?;
     let buyer = words.text();
     let seller = words.text();
     let code = words.text();
-    let Some((lots, price)) = words.two_values() else {
-        return Err(ReaderFault::Number);
-    };
+    let lots = words.value()?;
+    let price = words.value()?;
     Ok(Line::Trade {
         buyer,
         seller,
@@ -161,84 +151,42 @@ fn read_trade<'a>(rest: &'a [u8]) -> Result<Line<'a>, ReaderFault>
     })
 }
 
-// Reads `P code price`.
-fn read_price<'a>(rest: &'a [u8]) -> Result<Line<'a>, ReaderFault>
-    ensures { seen result ≡ behind rest.now price }
-{
-    let Some(mut words) = Words::after_letter(rest, 2) else {
-        return Err(ReaderFault::Form);
-    };
-    let code = words.text();
-    let Some(price) = words.value() else {
-        return Err(ReaderFault::Number);
-    };
-    Ok(Line::Price { code, price })
-}
-
 // Reads `D`.
-fn read_close<'a>(rest: &'a [u8]) -> Result<Line<'a>, ReaderFault>
+fn read_close(rest: &[u8]) -> Result<Line<'_>, ReaderFault>
     ensures { seen result ≡ behind rest.now close }
 {
-    let Some(_) = Words::after_letter(rest, 0) else {
-        return Err(ReaderFault::Form);
-    };
+    Words::after_letter(rest, 0)?;
     Ok(Line::Close)
 }
 
-// Reads `E code price`.
-fn read_expiry<'a>(rest: &'a [u8]) -> Result<Line<'a>, ReaderFault>
-    ensures { seen result ≡ behind rest.now expiry }
-{
-    let Some(mut words) = Words::after_letter(rest, 2) else {
-        return Err(ReaderFault::Form);
-    };
-    let code = words.text();
-    let Some(price) = words.value() else {
-        return Err(ReaderFault::Number);
-    };
-    Ok(Line::Expiry { code, price })
-}
-
 // Reads `M from to`.
-fn read_transfer<'a>(rest: &'a [u8]) -> Result<Line<'a>, ReaderFault>
+fn read_transfer(rest: &[u8]) -> Result<Line<'_>, ReaderFault>
     ensures { seen result ≡ behind rest.now transfer }
 {
-    let Some(mut words) = Words::after_letter(rest, 2) else {
-        return Err(ReaderFault::Form);
-    };
+    let mut words = Words::after_letter(rest, 2)?;
     let from = words.text();
     let to = words.text();
     Ok(Line::Transfer { from, to })
 }
 
-// Reads `R account`.
-fn read_reading<'a>(rest: &'a [u8]) -> Result<Line<'a>, ReaderFault>
-    ensures { seen result ≡ behind rest.now reading }
-{
-    let Some(mut words) = Words::after_letter(rest, 1) else {
-        return Err(ReaderFault::Form);
-    };
-    let account = words.text();
-    Ok(Line::Reading { account })
-}
-
-// Reads a line by the form that its letter begins.
-pub(crate) fn read_form<'a>(line: &'a [u8]) -> Result<Line<'a>, ReaderFault>
+// Reads a line by the form that its letter begins: by a slice pattern on the first byte and the rest, a form that docs/DECISIONS.md settles.
+#[tactic(auto, using(crate::proofs::Lettered::lettered, crate::proofs::Lettered::unlettered))]
+pub(crate) fn read_form(line: &[u8]) -> Result<Line<'_>, ReaderFault>
     ensures { seen result ≡ formed line.now }
 {
     match line {
-        [b'A', rest @ ..] => read_account(rest),
+        [b'A', rest @ ..] => read_code(rest, |account| Line::Account { account }),
         [b'C', rest @ ..] => read_contract(rest),
         [b'F', rest @ ..] => read_future(rest),
         [b'O', rest @ ..] => read_option(rest),
         [b'N', rest @ ..] => read_minimum(rest),
         [b'X', rest @ ..] => read_rule(rest),
         [b'T', rest @ ..] => read_trade(rest),
-        [b'P', rest @ ..] => read_price(rest),
+        [b'P', rest @ ..] => read_code_and_number(rest, |code, price| Line::Price { code, price }),
         [b'D', rest @ ..] => read_close(rest),
-        [b'E', rest @ ..] => read_expiry(rest),
+        [b'E', rest @ ..] => read_code_and_number(rest, |code, price| Line::Expiry { code, price }),
         [b'M', rest @ ..] => read_transfer(rest),
-        [b'R', rest @ ..] => read_reading(rest),
+        [b'R', rest @ ..] => read_code(rest, |account| Line::Reading { account }),
         _ => Err(ReaderFault::Form),
     }
 }

@@ -20,26 +20,20 @@ use terms::ReaderFault;
 const MAX_LINE: usize = 400;
 
 // The bytes before the first line feed.
-fn first_line<'a>(input: &'a [u8]) -> Option<&'a [u8]>
+fn first_line(input: &[u8]) -> Option<&[u8]>
     ensures { option_map (λ x. x.now) result ≡ up_to input.now }
 {
-    for (i, byte) in input.iter().enumerate() {
-        if *byte == b'\n' {
-            return Some(&input[0..i]);
-        }
-    }
-    None
+    let end = input.iter().position(|byte| *byte == b'\n')?;
+    Some(&input[..end])
 }
 
 // Reads one line, up to the first line feed of `input`; refuses it by its length, then by its form, then by a number. However many
 // spaces part its words, it is read by its letter and its words.
-pub fn read<'a>(input: &'a [u8]) -> Result<Line<'a>, ReaderFault>
+pub fn read(input: &[u8]) -> Result<Line<'_>, ReaderFault>
     ensures value { seen result ≡ line_said input.now }
     ensures words { ByItsWords input.now result }
 {
-    let Some(line) = first_line(input) else {
-        return Err(ReaderFault::Length);
-    };
+    let line = first_line(input).ok_or(ReaderFault::Length)?;
     if line.len() > MAX_LINE {
         return Err(ReaderFault::Length);
     }

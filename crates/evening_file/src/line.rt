@@ -5,7 +5,7 @@ use terms::{RuleKind, Style};
 pub(crate) const LOSSES: usize = 16;
 
 // An instruction, with its code words as they stand in the line.
-#[derive(Clone, Copy)]
+#[derive(Clone, Copy, Debug, PartialEq, Eq)]
 pub enum Line<'a> {
     // A account
     Account {

@@ -1,24 +1,21 @@
 // The value of a number word: an optional minus, then 1 to 12 digits.
-ghost use Rattle.std.specs.Prelude.{◌≡◌, ◌-◌, ◌^◌, ◌<◌, true, false, IfSome, MatchOption};
+ghost use Rattle.std.specs.Prelude.{◌≡◌, ◌-◌, ◌<◌, true, false, pos, MatchOption};
+ghost use Rattle.std.specs.Option.{option_map};
 ghost use Rattle.evening_file.specs.Numbers.{digit, unsigned, number};
 
 // How many digits a number may have.
 const MAX_DIGITS: usize = 12;
 
 // The value of one digit.
-fn digit_value(byte: u8) -> Option<u64>
-    ensures { MatchOption result (digit byte ≡ false) (λ d. (digit byte ≡ true) × ((d ≡ byte - 48) × (d < 10))) }
+fn digit_value(byte: u8) -> Option<i64>
+    ensures { MatchOption result (digit byte ≡ false) (λ d. (digit byte ≡ true) × (d ≡ pos (byte - 48)) × (byte - 48 < 10)) }
 {
-    match byte {
-        b'0'..=b'9' => Some((byte - b'0') as u64),
-        _ => None,
-    }
+    char::from(byte).to_digit(10).map(i64::from)
 }
 
-// The value of 1 to 12 digits.
-fn digits_value(digits: &[u8]) -> Option<u64>
-    ensures value { result ≡ unsigned digits.now }
-    ensures bound { IfSome result (λ n. n < 10 ^ 12) }
+// The value of 1 to 12 digits. The library's `parse` takes a plus, any number of digits, and text alone.
+fn digits_value(digits: &[u8]) -> Option<i64>
+    ensures { result ≡ option_map pos (unsigned digits.now) }
 {
     if digits.is_empty() || digits.len() > MAX_DIGITS {
         return None;
@@ -35,7 +32,7 @@ pub(crate) fn number_value(word: &[u8]) -> Option<i64>
     ensures { result ≡ number word.now }
 {
     match word {
-        [b'-', digits @ ..] => Some(-(digits_value(digits)? as i64)),
-        _ => Some(digits_value(word)? as i64),
+        [b'-', digits @ ..] => digits_value(digits).map(|value| -value),
+        _ => digits_value(word),
     }
 }

@@ -1,13 +1,17 @@
 // The words of a line, handed out one at a time, each as what the line's form expects next.
-ghost use Rattle.std.specs.Prelude.{◌≡◌, ◌<◌, ◌≤◌, true, [], length, take, drop, ◌≢◌, slice_index};
-ghost use Rattle.evening_file.specs.Letters.{style, rule_kind};
+ghost use Rattle.std.specs.Prelude.{◌≡◌, true, length};
+ghost use Rattle.std.specs.Iterator.{at_most, YieldsFirstRef};
+ghost use Rattle.std.specs.Option.{ok_or};
+ghost use Rattle.terms.specs.declared.faults.ReaderFault.TheVariants.{Form, Number};
+ghost use Rattle.evening_file.specs.Letters.{only};
 ghost use Rattle.evening_file.specs.Numbers.{number};
-ghost use Rattle.evening_file.specs.Words.{words, ended, parted, text_of, is_number, is_letter, left, Followed, Handed, Valued, Paired};
+ghost use Rattle.evening_file.specs.Words.{parted, text_of, is_number, is_letter, left, Followed, Handed, Valued, Lettered};
 
 use crate::numbers::number_value;
-use terms::{RuleKind, Style};
+use terms::ReaderFault;
 
-// A word, by what its form takes it for; each case holds its part of the line.
+// A word, by what its form takes it for; each case holds its part of the line. The enum is a form that
+// docs/DECISIONS.md settles.
 #[derive(Clone, Copy)]
 pub(crate) enum Word<'a> {
     Code(&'a [u8]),
@@ -21,42 +25,27 @@ impl<'a> Word<'a> {
         ensures { result.now ≡ text_of self.entry }
     {
         match self {
-            Word::Code(text) => text,
-            Word::Number(text) => text,
-            Word::Letter(text) => text,
+            Word::Code(text) | Word::Number(text) | Word::Letter(text) => text,
         }
     }
 
-    // The value of a number.
-    pub(crate) fn value(self) -> Option<i64>
-        ensures { is_number self.entry ≡ true → result ≡ number (text_of self.entry) }
+    // The value of a number; another word has none.
+    pub(crate) fn value(self) -> Result<i64, ReaderFault>
+        ensures { is_number self.entry ≡ true → result ≡ ok_or (number (text_of self.entry)) Number }
     {
         match self {
-            Word::Number(text) => number_value(text),
-            _ => None,
+            Word::Number(text) => number_value(text).ok_or(ReaderFault::Number),
+            _ => Err(ReaderFault::Number),
         }
     }
 
-    // The style that a letter word names.
-    pub(crate) fn style(self) -> Option<Style>
-        ensures { is_letter self.entry ≡ true → result ≡ style (text_of self.entry) }
+    // The one byte of a letter word; another word has none.
+    pub(crate) fn byte(self) -> Result<u8, ReaderFault>
+        ensures { is_letter self.entry ≡ true → result ≡ ok_or (only (text_of self.entry)) Form }
     {
         match self {
-            Word::Letter([b'F']) => Some(Style::Future),
-            Word::Letter([b'S']) => Some(Style::Storable),
-            Word::Letter([b'P']) => Some(Style::Premium),
-            _ => None,
-        }
-    }
-
-    // The kind of rule that a letter word names.
-    pub(crate) fn rule_kind(self) -> Option<RuleKind>
-        ensures { is_letter self.entry ≡ true → result ≡ rule_kind (text_of self.entry) }
-    {
-        match self {
-            Word::Letter([b'P']) => Some(RuleKind::Perfect),
-            Word::Letter([b'R']) => Some(RuleKind::Regular),
-            _ => None,
+            Word::Letter([byte]) => Ok(*byte),
+            _ => Err(ReaderFault::Form),
         }
     }
 }
@@ -67,122 +56,79 @@ pub(crate) struct Words<'a> {
     rest: &'a [u8],
 }
 
+impl<'a> Iterator for Words<'a> {
+    type Item = &'a [u8];
+
+    ghost next_gives = { YieldsFirstRef left };
+
+    ghost remaining = { λ s. at_most (length s.rest.now) };
+
+    // The next word's part of the line: what stands behind the spaces in front, up to the next space.
+    fn next(&mut self) -> Option<&'a [u8]> {
+        let start = self.rest.iter().position(|byte| *byte != b' ')?;
+        let rest = &self.rest[start..];
+        let end = rest
+            .iter()
+            .position(|byte| *byte == b' ')
+            .unwrap_or(rest.len());
+        let (word, after) = rest.split_at(end);
+        self.rest = after;
+        Some(word)
+    }
+}
+
 impl<'a> Words<'a> {
-    // The words behind a line's letter, if the letter is a word of its own and `count` words follow it.
-    pub(crate) fn after_letter(rest: &'a [u8], count: usize) -> Option<Words<'a>>
+    // The words behind a line's letter; refused unless the letter is a word of its own and `count` words follow it.
+    pub(crate) fn after_letter(rest: &'a [u8], count: usize) -> Result<Words<'a>, ReaderFault>
         ensures { Followed rest.now count result }
     {
         let words = Words { rest };
         if !begins_apart(rest) || words.count() != count {
-            return None;
+            return Err(ReaderFault::Form);
         }
-        Some(words)
+        Ok(words)
     }
 
-    // The next word, a code.
-    fn code(&mut self) -> Word<'a>
-        ensures { Handed self.old self.new (text_of result) }
+    // The next word's part of the line, which is empty where no word is left: the words were counted, so a form asks for none that is not there.
+    fn part(&mut self) -> &'a [u8]
+        ensures { Handed self.old self.new result.now }
     {
-        Word::Code(self.next())
+        self.next().unwrap_or_default()
     }
 
     // The text of the next word, a code.
     pub(crate) fn text(&mut self) -> &'a [u8]
         ensures { Handed self.old self.new result.now }
     {
-        self.code().text()
+        Word::Code(self.part()).text()
     }
 
-    // The next word, a number.
+    // The next word, a number whose value is asked for in its turn.
     pub(crate) fn number(&mut self) -> Word<'a>
         ensures handed { Handed self.old self.new (text_of result) }
         ensures kind { is_number result ≡ true }
     {
-        Word::Number(self.next())
+        Word::Number(self.part())
     }
 
-    // The next word, a letter word.
-    pub(crate) fn letter(&mut self) -> Word<'a>
-        ensures handed { Handed self.old self.new (text_of result) }
-        ensures kind { is_letter result ≡ true }
+    // The byte of the next word, a letter word.
+    pub(crate) fn letter(&mut self) -> Result<u8, ReaderFault>
+        ensures { Lettered self.old self.new result }
     {
-        Word::Letter(self.next())
+        Word::Letter(self.part()).byte()
     }
 
     // The value of the next word, a number.
-    pub(crate) fn value(&mut self) -> Option<i64>
+    pub(crate) fn value(&mut self) -> Result<i64, ReaderFault>
         ensures { Valued self.old self.new result }
     {
         self.number().value()
     }
-
-    // The values of the next two words, both numbers.
-    pub(crate) fn two_values(&mut self) -> Option<(i64, i64)>
-        ensures { Paired self.old self.new result }
-    {
-        let first = self.number();
-        let second = self.number();
-        Some((first.value()?, second.value()?))
-    }
-
-    // How many words are left.
-    fn count(self) -> usize
-        ensures { result ≡ length (left self.entry) }
-    {
-        let mut words = self;
-        let mut count = 0;
-        while !words.next().is_empty() {
-            count += 1;
-        }
-        count
-    }
-
-    // The next word's part of the line, which is empty where no word is left.
-    fn next(&mut self) -> &'a [u8]
-        ensures handed { Handed self.old self.new result.now }
-        ensures none { length result.now ≡ 0 → left self.old ≡ [] }
-        ensures less { 0 < length result.now → (0 < length (left self.old)) × (length self.new.rest.now < length self.old.rest.now) }
-    {
-        let rest = past_spaces(self.rest);
-        let (word, after) = rest.split_at(word_len(rest));
-        self.rest = after;
-        word
-    }
-}
-
-// The bytes behind the spaces at the front.
-fn past_spaces<'a>(bytes: &'a [u8]) -> &'a [u8]
-    ensures same { words result.now ≡ words bytes.now }
-    ensures len { length result.now ≤ length bytes.now }
-    ensures first { 0 < length result.now → slice_index result.now 0 ≢ 32 }
-{
-    let mut left = bytes;
-    while let [b' ', rest @ ..] = left {
-        left = rest;
-    }
-    left
-}
-
-// How many bytes the word at the front has.
-fn word_len(bytes: &[u8]) -> usize
-    ensures within { result ≤ length bytes.now }
-    ensures value { words bytes.now ≡ ended (take result bytes.now) (words (drop result bytes.now)) }
-    ensures some { 0 < length bytes.now → (slice_index bytes.now 0 ≢ 32) → 0 < result }
-{
-    for (i, b) in bytes.iter().enumerate() {
-        if *b == b' ' {
-            return i;
-        }
-    }
-    bytes.len()
 }
 
 // Whether a word before these bytes ends there.
 fn begins_apart(bytes: &[u8]) -> bool
     ensures { result ≡ parted bytes.now }
 {
-    match bytes {
-        [] => true,
-        [first, ..] => *first == b' ',
-    }
+    matches!(bytes, [] | [b' ', ..])
 }

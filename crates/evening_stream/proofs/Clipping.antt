@@ -1,13 +1,14 @@
 -- A line is read the same from its first 401 bytes: a longer one is too long either way.
-use Rattle.std.proofs.Common.{◌≡◌, ℕ, zero, suc, ◌≤◌, eqb, ◌⊎◌, List, [], ◌∷◌, ◌++◌, length, take, Some, None, Err, Option, sym, refl, ap, ◌∙◌, inl, inr, ⊎_elim, arith}
+use Rattle.std.proofs.Common.{◌≡◌, ℕ, zero, suc, ◌≤◌, eqb, ◌⊎◌, List, [], ◌∷◌, ◌++◌, length, take, is_err, Some, None, Ok, Err, Option, Result, false, sym, refl, ap, ◌∙◌, inl, inr, ⊎_elim, arith}
 use Rattle.std.specs.Option.{option_map}
+use Rattle.std.specs.declared.alloc.AllocError.{AllocError}
 use Rattle.std.proofs.lemmas.List.{take-take}
 use Rattle.std.proofs.lemmas.Bool.{cases_Bool, cond-false, lt-leb}
 use Rattle.ordered.specs.Files.{left}
 use Rattle.terms.specs.declared.faults.ReaderFault.TheVariants.{Length}
 use Rattle.evening_file.specs.Lines.{up_to, fitting, line_said}
-use Rattle.evening_desk.specs.Evening.{Held, unless_reader, printed_of, after, printed}
-use Rattle.evening_stream.specs.Input.{State, next, clipped, ended, ended_says}
+use Rattle.evening_desk.specs.Evening.{Held, unless_reader, printed_of, after, printed, Worked}
+use Rattle.evening_stream.specs.Input.{State, next, clipped, LineEnded}
 
 -- no line, or one of at least n bytes
 abbrev Long : ℕ → Option (List ℕ) → Type 0
@@ -47,12 +48,14 @@ unfolding printed
 printed-clipped n h bs = ap (λ s. printed_of n (unless_reader h s)) (said_clipped bs)
 
 -- a line that the desk worked ends the line that was kept, where both have the same first bytes
-pub line_ended : (s : State) (line whole : List ℕ) (number : ℕ) (h' : Held) (out out' : List ℕ) → number ≡ next s.lines → clipped line ≡ clipped whole → (h' ≡ after s.desk line) × (out' ≡ out ++ printed number s.desk line)
-    → (record { desk = h'; lines = number; kept = [] } ≡ ended s (clipped whole)) × (out' ≡ out ++ ended_says s (clipped whole))
-line_ended s line whole number h' out out' n_is same done =
-    let held_is : h' ≡ after s.desk (clipped whole) = done.0 ∙ sym (after-clipped s.desk line) ∙ ap (after s.desk) same in (
-      λ i. record { desk = held_is i; lines = n_is i; kept = [] },
-      done.1 ∙ ap (λ t. out ++ t) (sym (printed-clipped number s.desk line) ∙ ap (printed number s.desk) same ∙ ap (λ n. printed n s.desk (clipped whole)) n_is),
+pub line_ended : (s : State) (h h' : Held) (line rest : List ℕ) (number : ℕ) (r : Result (Unit {0}) AllocError) (out out' kept' : List ℕ) → h ≡ s.desk → number ≡ next s.lines → clipped line ≡ clipped (s.kept ++ rest) → is_err r ≡ false → Worked h number line out r h' out' → kept' ≡ []
+    → LineEnded s rest out (Ok tt) (record { desk = h'; lines = number; kept = kept' }) out'
+line_ended s h h' line rest number (Err e) out out' kept' held_is n_is same ok done none = cc
+line_ended s h h' line rest number (Ok u) out out' kept' held_is n_is same ok done none =
+    let whole = clipped (s.kept ++ rest) in
+    let left_is : h' ≡ after s.desk whole = done.0 ∙ sym (after-clipped h line) ∙ (λ i. after (held_is i) (same i)) in (
+      λ i. record { desk = left_is i; lines = n_is i; kept = none i },
+      done.1 ∙ ap (λ t. out ++ t) (sym (printed-clipped number h line) ∙ (λ i. printed (n_is i) (held_is i) (same i))),
     )
 
 pub clipped-clipped : (bs : List ℕ) → clipped (clipped bs) ≡ clipped bs

@@ -1,10 +1,13 @@
 -- Cuts do not matter: the bytes of all blocks together print what their lines print.
-use Rattle.std.proofs.Common.{◌≡◌, ℕ, ◌<◌, ◌≤◌, eqb, List, [], ◌∷◌, ◌++◌, length, sym, refl, ap, ◌∙◌, ⊎_elim, append_assoc, append-nil, arith}
-use Rattle.std.proofs.lemmas.List.{take_all}
+use Rattle.std.proofs.Common.{◌≡◌, ℕ, true, ◌<◌, eqb, List, [], ◌∷◌, ◌++◌, length, is_ok, Ok, Err, Result, MatchResult, sym, refl, ap, ◌∙◌, ⊎_elim, append_assoc, append-nil, arith}
+use Rattle.std.specs.declared.alloc.AllocError.{AllocError}
+use Rattle.std.proofs.lemmas.List.{nil_from_length}
 use Rattle.std.proofs.lemmas.Bool.{cases_Bool, cond-true, cond-false}
 use Rattle.evening_desk.specs.Evening.{Held, after, printed}
-use Rattle.evening_stream.specs.Input.{State, next, clipped, step, step_says, ended, ended_says, last_line, fed, says, finished, finished_says}
-use Rattle.evening_stream.specs.Whole.{lines_on, lines_of, printed_by, fresh, fed_all, says_all, together}
+use Rattle.evening_stream.specs.Input.{State, next, clipped, step, step_says, ended, ended_says, last_line, fed, says, finished_says, Finished, LineEnded}
+use Rattle.evening_stream.specs.declared.fault.Stop.{Stop}
+use Rattle.evening_stream.specs.declared.fault.Stop.TheVariants.{Memory}
+use Rattle.evening_stream.specs.Whole.{lines_on, printed_by, fresh, fed_all, says_all, together, ByItsLines}
 use Rattle.evening_stream.proofs.Feeding.{fed-append, says-append, clipped_twice}
 use Rattle.evening_stream.proofs.Clipping.{after-clipped, printed-clipped}
 
@@ -53,24 +56,29 @@ says_all-together s [] = refl
 says_all-together s (b ∷ bs) = ap (λ t. says s b ++ t) (says_all-together (fed s b) bs) ∙ sym (says-append s b (together bs))
 
 -- the output of all blocks, and of the end, is that of the lines
-pub whole_output : (s : State) (out out' : List ℕ) → out' ≡ out ++ finished_says s → (h : Held) (blocks : List (List ℕ)) (shown : List ℕ) → s ≡ fed_all (fresh h) blocks → shown ++ out ≡ says_all (fresh h) blocks
-    → shown ++ out' ≡ printed_by 0 h (lines_of (together blocks))
-whole_output s out out' ended h blocks shown fed_so said_so =
-    ap (λ t. shown ++ t) ended ∙ sym (append_assoc shown out (finished_says s)) ∙ ap (λ t. t ++ finished_says s) (said_so ∙ says_all-together (fresh h) blocks)
+pub whole_output : (s : State) (out out' : List ℕ) (r : Result (Unit {0}) Stop) (s' : State) → Finished s out r s' out' → is_ok r ≡ true → ByItsLines s out out'
+whole_output s out out' (Err e) s' done ok = cc
+whole_output s out out' (Ok u) s' done ok = λ h blocks shown fed_so said_so.
+    ap (λ t. shown ++ t) done.1 ∙ sym (append_assoc shown out (finished_says s)) ∙ ap (λ t. t ++ finished_says s) (said_so ∙ says_all-together (fresh h) blocks)
     ∙ ap (λ t. says (fresh h) (together blocks) ++ finished_says t) (fed_so ∙ fed_all-together (fresh h) blocks)
     ∙ by_lines h 0 [] (together blocks)
 
 -- the end of an input behind an LF
-pub finished_none : (s : State) (out : List ℕ) → s.kept ≡ [] → (s ≡ finished s) × (out ≡ out ++ finished_says s)
+pub finished_none : (s : State) (out : List ℕ) → length s.kept ≡ 0 → Finished s out (Ok tt) s out
 finished_none s out none =
-    (ap (λ k. last_line k s (ended s s.kept)) (sym none), sym (append-nil out) ∙ ap (λ k. out ++ last_line k [] (ended_says s s.kept)) (sym none))
+    let nil = sym (nil_from_length s.kept none) in
+    (ap (λ k. last_line k s (ended s s.kept)) nil, sym (append-nil out) ∙ ap (λ k. out ++ last_line k [] (ended_says s s.kept)) nil)
 
 -- the end of an input within a line
-pub finished_some : (s : State) (out : List ℕ) (s' : State) (out' : List ℕ) → 0 < length s.kept → length s.kept ≤ 401 → (s' ≡ ended s (clipped (s.kept ++ []))) × (out' ≡ out ++ ended_says s (clipped (s.kept ++ [])))
-    → (s' ≡ finished s) × (out' ≡ out ++ finished_says s)
-finished_some s out s' out' some few done =
-    let line : clipped (s.kept ++ []) ≡ s.kept = ap clipped (append-nil s.kept) ∙ take_all 401 s.kept few in
-    (done.0 ∙ ap (ended s) line ∙ sym (last_some s.kept some s (ended s s.kept)), done.1 ∙ ap (λ l. out ++ ended_says s l) line ∙ ap (λ t. out ++ t) (sym (last_some s.kept some [] (ended_says s s.kept))))
+pub finished_some : (s : State) (out : List ℕ) (r : Result (Unit {0}) AllocError) (m : Result (Unit {0}) Stop) (s' : State) (out' : List ℕ) → 0 < length s.kept → LineEnded s [] out r s' out' → MatchResult r (λ u. m ≡ Ok u) (λ e. m ≡ Err (Memory 0))
+    → Finished s out m s' out'
+finished_some s out (Err e) m s' out' some done told = rw told (refl, done.0, done.1)
+finished_some s out (Ok u) m s' out' some done told =
+    let line : clipped (s.kept ++ []) ≡ clipped s.kept = ap clipped (append-nil s.kept) in
+    rw told (
+      done.0 ∙ ap (λ d. record { desk = d; lines = next s.lines; kept = [] }) (ap (after s.desk) line ∙ after-clipped s.desk s.kept) ∙ sym (last_some s.kept some s (ended s s.kept)),
+      done.1 ∙ ap (λ t. out ++ t) (ap (ended_says s) line ∙ printed-clipped (next s.lines) s.desk s.kept ∙ sym (last_some s.kept some [] (ended_says s s.kept))),
+    )
   where
     last_some : {X : Type 0} (k : List ℕ) → 0 < length k → (x y : X) → last_line k x y ≡ y
     last_some [] l x y = absurd (omega arith)

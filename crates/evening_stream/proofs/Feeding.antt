@@ -1,31 +1,12 @@
 -- What feeding bytes does: bytes without an LF are kept, an LF ends the line, and one list of bytes after another is the two together.
-use Rattle.std.proofs.Common.{◌≡◌, ℕ, zero, suc, ◌+◌, ◌-◌, ◌≤◌, min, true, false, eqb, List, [], ◌∷◌, ◌++◌, length, take, drop, is_err, Some, Ok, Err, Result, sym, refl, ap, ◌∙◌, ⊎_elim, append_assoc, append-nil, zero-add, arith}
+use Rattle.std.proofs.Common.{◌≡◌, ℕ, zero, suc, ◌+◌, ◌-◌, ◌<◌, min, Bool, true, false, eqb, List, [], ◌∷◌, ◌++◌, length, take, get_or, Decides, is_ok, Ok, Err, Result, sym, refl, ap, ◌∙◌, append_assoc, append-nil, subst, ⊎_elim, arith}
+use Rattle.std.specs.List.{All, IsFirstMatchOrLen, ends_with}
+use Rattle.std.proofs.Math.Seq.{take-append-add}
+use Rattle.std.proofs.lemmas.List.{take_at, take_all, take_more, take_min, get_or-take, get_or_append_left, length-append, length-take-le}
 use Rattle.std.specs.declared.alloc.AllocError.{AllocError}
-use Rattle.std.proofs.lemmas.List.{take_all, take_rest, take-append-drop, length-take}
-use Rattle.std.proofs.lemmas.Bool.{both_ways, cases_lt, cond-false, and_parts, and_from, not-true, not_from_false, ne_eqb}
-use Rattle.evening_stream.specs.Input.{State, clipped, ended, ended_says, goes_on, step, step_says, fed, says, no_end, FirstLine, LineEnded}
-
--- the front of two lists one after the other, where the first lies within it
-pub take_front : {X : Type 0} (n : ℕ) (xs ys : List X) → length xs ≤ n → take n (xs ++ ys) ≡ xs ++ take (n - length xs) ys
-take_front n [] ys l = ap (λ k. take k ys) (omega arith)
-take_front zero (x ∷ xs) ys l = absurd (omega arith)
-take_front (suc n) (x ∷ xs) ys l = ap (λ t. x ∷ t) (take_front n xs ys (omega arith) ∙ ap (λ k. xs ++ take k ys) (omega arith))
-
-pub take_least : {X : Type 0} (n : ℕ) (xs : List X) → take (min (length xs) n) xs ≡ take n xs
-take_least n xs =
-    ⊎_elim
-    (λ l. ap (λ k. take k xs) (omega arith) ∙ take_all (length xs) xs (omega arith) ∙ sym (take_all n xs (omega arith)))
-    (λ l. ap (λ k. take k xs) (omega arith))
-    (cases_lt (length xs) n)
-
--- bytes are kept as far as there is a place for them
-pub kept_more : (kept more : List ℕ) → length kept ≤ 401 → kept ++ take (min (length more) (401 - length kept)) more ≡ clipped (kept ++ more)
-kept_more kept more l = ap (λ t. kept ++ t) (take_least (401 - length kept) more) ∙ sym (take_front 401 kept more l)
-
--- one byte more that is no LF
-pub no_end_push : (bs : List ℕ) (c : ℕ) → no_end bs ≡ true → (c ≡ 10 → ⊥) → no_end (bs ++ (c ∷ [])) ≡ true
-no_end_push [] c h n = and_from _ _ (not_from_false _ (ne_eqb c 10 n)) refl
-no_end_push (b ∷ bs) c h n = let p = and_parts _ _ h in and_from _ _ p.0 (no_end_push bs c p.1 n)
+use Rattle.std.proofs.lemmas.Bool.{cond-false, cases_lt, eqb-true, eq-eqb}
+use Rattle.std.proofs.lemmas.Slice.Eq.{ends_is}
+use Rattle.evening_stream.specs.Input.{State, clipped, ended, ended_says, goes_on, step, step_says, fed, says, LineEnded}
 
 -- one list of bytes after another
 pub fed-append : (s : State) (xs ys : List ℕ) → fed s (xs ++ ys) ≡ fed (fed s xs) ys
@@ -45,68 +26,117 @@ take_twice (suc n) (x ∷ xs) ys = ap (λ t. x ∷ t) (take_twice n xs ys)
 pub clipped_twice : (xs ys : List ℕ) → clipped (clipped xs ++ ys) ≡ clipped (xs ++ ys)
 clipped_twice xs ys = take_twice 401 xs ys
 
-length-clipped : (xs : List ℕ) → length (clipped xs) ≤ 401
-length-clipped xs = simp length-take (omega arith)
+-- bytes are kept as far as there is a place for them
+pub kept_more : (kept more kept' : List ℕ) (places n : ℕ) → places + length kept ≡ 401 → n ≡ min places (length more) → kept' ≡ kept ++ take n more → kept' ≡ clipped (kept ++ more)
+kept_more kept more kept' places n all n_is e =
+    let whole : length kept + places ≡ 401 = omega arith in
+    e ∙ ap (λ k. kept ++ take k more) n_is ∙ ap (λ t. kept ++ t) (take_min places more) ∙ sym (take-append-add kept more places) ∙ ap (λ k. take k (kept ++ more)) whole
+
+decides : (a b : ℕ) → Decides (eqb a b) (a ≡ b)
+decides a b = (eqb-true a b, eq-eqb a b)
+
+-- no byte is an LF
+abbrev pub NoEnd : List ℕ → Type 0
+NoEnd bs = All (λ c. eqb c 10 ≡ false) bs
+
+no_end-parts : (c : ℕ) (cs : List ℕ) → NoEnd (c ∷ cs) → (eqb c 10 ≡ false) × NoEnd cs
+no_end-parts c cs h = (h 0 0 (omega arith), λ k d l. h (suc k) d (omega arith))
 
 -- bytes without an LF are kept, and print nothing
-pub fed-no_end : (s : State) (bs : List ℕ) → no_end bs ≡ true → length s.kept ≤ 401 → fed s bs ≡ goes_on s (clipped (s.kept ++ bs))
-fed-no_end s [] h l = ap (goes_on s) (sym (take_all 401 s.kept l) ∙ ap clipped (sym (append-nil s.kept)))
-fed-no_end s (c ∷ bs) h l =
-    let p = and_parts _ _ h in
-    let on : step s c ≡ goes_on s (clipped (s.kept ++ (c ∷ []))) = cond-false (eqb c 10) _ _ (not-true _ p.0) in
-    ap (λ t. fed t bs) on ∙ fed-no_end (goes_on s (clipped (s.kept ++ (c ∷ [])))) bs p.1 (length-clipped (s.kept ++ (c ∷ []))) ∙ ap (goes_on s) (clipped_twice (s.kept ++ (c ∷ [])) bs ∙ ap clipped (append_assoc s.kept (c ∷ []) bs))
+fed_on : (s : State) (w bs : List ℕ) → NoEnd bs → fed (goes_on s (clipped w)) bs ≡ goes_on s (clipped (w ++ bs))
+fed_on s w [] h = ap (λ k. goes_on s (clipped k)) (sym (append-nil w))
+fed_on s w (c ∷ cs) h =
+    let p = no_end-parts c cs h in
+    ap (λ t. fed t cs) (cond-false (eqb c 10) _ _ p.0 ∙ ap (goes_on s) (clipped_twice w (c ∷ []))) ∙ fed_on s (w ++ (c ∷ [])) cs p.1 ∙ ap (λ k. goes_on s (clipped k)) (append_assoc w (c ∷ []) cs)
 
-pub says-no_end : (s : State) (bs : List ℕ) → no_end bs ≡ true → says s bs ≡ []
-says-no_end s [] h = refl
-says-no_end s (c ∷ bs) h =
-    let p = and_parts _ _ h in
-    ap (λ t. t ++ says (step s c) bs) (cond-false (eqb c 10) _ _ (not-true _ p.0)) ∙ says-no_end (step s c) bs p.1
+pub fed_kept : (s : State) (bs : List ℕ) → 0 < length bs → NoEnd bs → fed s bs ≡ goes_on s (clipped (s.kept ++ bs))
+fed_kept s [] l h = absurd (omega arith)
+fed_kept s (c ∷ cs) l h =
+    let p = no_end-parts c cs h in
+    ap (λ t. fed t cs) (cond-false (eqb c 10) _ _ p.0) ∙ fed_on s (s.kept ++ (c ∷ [])) cs p.1 ∙ ap (λ k. goes_on s (clipped k)) (append_assoc s.kept (c ∷ []) cs)
+
+pub says_kept : (s : State) (bs : List ℕ) → NoEnd bs → says s bs ≡ []
+says_kept s [] h = refl
+says_kept s (c ∷ cs) h =
+    let p = no_end-parts c cs h in
+    ap (λ t. t ++ says (step s c) cs) (cond-false (eqb c 10) _ _ p.0) ∙ says_kept (step s c) cs p.1
 
 -- a line with its LF is carried out
-pub fed_line : (s : State) (w : List ℕ) → no_end w ≡ true → length s.kept ≤ 401 → fed s (w ++ (10 ∷ [])) ≡ ended s (clipped (s.kept ++ (w ++ (10 ∷ []))))
-fed_line s w h l =
-    fed-append s w (10 ∷ []) ∙ ap (λ t. fed t (10 ∷ [])) (fed-no_end s w h l) ∙ ap (ended s) (clipped_twice (s.kept ++ w) (10 ∷ []) ∙ ap clipped (append_assoc s.kept w (10 ∷ [])))
+pub fed_line : (s : State) (w : List ℕ) → NoEnd w → fed s (w ++ (10 ∷ [])) ≡ ended s (clipped (s.kept ++ (w ++ (10 ∷ []))))
+fed_line s [] h = refl
+fed_line s (c ∷ cs) h =
+    let w = c ∷ cs in
+    fed-append s w (10 ∷ []) ∙ ap (λ t. fed t (10 ∷ [])) (fed_kept s w (omega arith) h) ∙ ap (ended s) (clipped_twice (s.kept ++ w) (10 ∷ []) ∙ ap clipped (append_assoc s.kept w (10 ∷ [])))
 
-pub says_line : (s : State) (w : List ℕ) → no_end w ≡ true → length s.kept ≤ 401 → says s (w ++ (10 ∷ [])) ≡ ended_says s (clipped (s.kept ++ (w ++ (10 ∷ []))))
-says_line s w h l =
-    says-append s w (10 ∷ []) ∙ ap (λ t. t ++ says (fed s w) (10 ∷ [])) (says-no_end s w h) ∙ ap (λ t. says t (10 ∷ [])) (fed-no_end s w h l) ∙ append-nil _
+pub says_line : (s : State) (w : List ℕ) → NoEnd w → says s (w ++ (10 ∷ [])) ≡ ended_says s (clipped (s.kept ++ (w ++ (10 ∷ []))))
+says_line s [] h = append-nil _
+says_line s (c ∷ cs) h =
+    let w = c ∷ cs in
+    says-append s w (10 ∷ []) ∙ ap (λ t. t ++ says (fed s w) (10 ∷ [])) (says_kept s w h) ∙ ap (λ t. says t (10 ∷ [])) (fed_kept s w (omega arith) h) ∙ append-nil _
     ∙ ap (ended_says s) (clipped_twice (s.kept ++ w) (10 ∷ []) ∙ ap clipped (append_assoc s.kept w (10 ∷ [])))
 
--- the bytes up to a place, and those behind it
-split_at : (n : ℕ) (xs : List ℕ) → xs ≡ take n xs ++ take (length xs - n) (drop n xs)
-split_at n xs = sym (take-append-drop n xs) ∙ ap (λ t. take n xs ++ t) (sym (take_rest xs n))
+-- a block that was fed as far as `taken`: `rest` is still to be fed
+pub record FedUpTo (s₀ : State) (block out₀ : List ℕ) (taken : ℕ) (rest : List ℕ) (s : State) (out : List ℕ) : Type 0 where
+  pub parted : block ≡ take taken block ++ rest
+  pub within : taken + length rest ≡ length block
+  pub is : s ≡ fed s₀ (take taken block)
+  pub said : out ≡ out₀ ++ says s₀ (take taken block)
 
-take_none : (k : ℕ) → take {A = ℕ} k [] ≡ []
-take_none zero = refl
-take_none (suc k) = refl
+module _ (s₀ : State) (block out₀ : List ℕ) (taken : ℕ) (rest : List ℕ) (s : State) (out : List ℕ) (before : FedUpTo s₀ block out₀ taken rest s out) where
+  -- one piece more
+  pub fed_piece : (piece rest' : List ℕ) (s' : State) (out' : List ℕ) → rest ≡ piece ++ rest' → s' ≡ fed s piece → out' ≡ out ++ says s piece → FedUpTo s₀ block out₀ (taken + length piece) rest' s' out'
+  fed_piece piece rest' s' out' parts on says_so =
+      let front = take taken block in
+      let whole : block ≡ (front ++ piece) ++ rest' = before.parted ∙ ap (λ t. front ++ t) parts ∙ sym (append_assoc front piece rest') in
+      let long : length front + length rest ≡ length block = sym (length-append front rest) ∙ ap length (sym before.parted) in
+      let here : length (front ++ piece) ≡ taken + length piece = length-append front piece ∙ omega (arith, before.within) in
+      let fronts : take (taken + length piece) block ≡ front ++ piece = ap (take (taken + length piece)) whole ∙ take_at (front ++ piece) rest' _ here in
+      record {
+        parted = whole ∙ ap (λ t. t ++ rest') (sym fronts);
+        within = omega (arith, before.within, ap length parts ∙ length-append piece rest');
+        is = on ∙ ap (λ t. fed t piece) before.is ∙ sym (fed-append s₀ front piece) ∙ ap (fed s₀) (sym fronts);
+        said =
+            says_so ∙ (λ i. before.said i ++ says (before.is i) piece) ∙ append_assoc out₀ (says s₀ front) (says (fed s₀ front) piece)
+            ∙ ap (λ t. out₀ ++ t) (sym (says-append s₀ front piece) ∙ ap (says s₀) (sym fronts));
+      }
 
-pub take-add : (m n : ℕ) (xs : List ℕ) → take (m + n) xs ≡ take m xs ++ take n (drop m xs)
-take-add zero n xs = ap (λ k. take k xs) (zero-add n)
-take-add (suc m) n [] = take_none (suc m + n) ∙ sym (take_none n)
-take-add (suc m) n (x ∷ xs) = let more : suc m + n ≡ suc (m + n) = omega arith in ap (λ k. take k (x ∷ xs)) more ∙ ap (λ t. x ∷ t) (take-add m n xs)
+-- A piece of what is left, `rest`, goes up to its first LF, or to its end where it has none. `ends` tells whether an LF ends the piece.
+module _ (s : State) (out rest piece rest' : List ℕ) (i : ℕ) (parts : rest ≡ piece ++ rest') (long : length piece ≡ min (i + 1) (length rest)) (first : IsFirstMatchOrLen (λ y. eqb y 10) rest i) (ends : Bool) (tested : ends ≡ ends_with eqb piece (10 ∷ [])) where
+  front : List ℕ
+  front = take (length piece - 1) piece
 
-module _ (s₀ : State) (block out₀ : List ℕ) (taken : ℕ) (s : State) (out : List ℕ) (is : s ≡ fed s₀ (take taken block)) (said : out ≡ out₀ ++ says s₀ (take taken block)) (few : length s.kept ≤ 401) where
-  -- one line more of the block
-  pub next_line : (n : ℕ) (s' : State) (out' : List ℕ) (r : Result (Unit {0}) AllocError) → FirstLine (take (length block - taken) (drop taken block)) (Some n) → is_err r ≡ false → LineEnded s (take (taken + n - taken) (drop taken block)) out r s' out'
-      → (s' ≡ fed s₀ (take (taken + n) block)) × (out' ≡ out₀ ++ says s₀ (take (taken + n) block))
-  next_line n s' out' (Err e) first ok done = absurd (both_ways true ok refl)
-  next_line n s' out' (Ok u) first ok done =
-      let line = take n (drop taken block) in
-      let w = take (n - 1) (take (length block - taken) (drop taken block)) in
-      let line_is : line ≡ w ++ (10 ∷ []) = ap (take n) (sym (take_rest block taken)) ∙ first.3 in
-      let given : take (taken + n - taken) (drop taken block) ≡ w ++ (10 ∷ []) = ap (λ k. take k (drop taken block)) (omega arith) ∙ line_is in
-      let up_to : take (taken + n) block ≡ take taken block ++ (w ++ (10 ∷ [])) = take-add taken n block ∙ ap (λ t. take taken block ++ t) line_is in (
-        done.0 ∙ ap (λ l. ended s (clipped (s.kept ++ l))) given ∙ sym (fed_line s w first.2 few) ∙ ap (λ t. fed t (w ++ (10 ∷ []))) is ∙ sym (fed-append s₀ (take taken block) (w ++ (10 ∷ []))) ∙ ap (fed s₀) (sym up_to),
-        done.1 ∙ ap (λ l. out ++ ended_says s (clipped (s.kept ++ l))) given ∙ ap (λ t. out ++ t) (sym (says_line s w first.2 few)) ∙ ap (λ t. out ++ says t (w ++ (10 ∷ []))) is
-            ∙ ap (λ t. t ++ says (fed s₀ (take taken block)) (w ++ (10 ∷ []))) said ∙ append_assoc out₀ (says s₀ (take taken block)) (says (fed s₀ (take taken block)) (w ++ (10 ∷ [])))
-            ∙ ap (λ t. out₀ ++ t) (sym (says-append s₀ (take taken block) (w ++ (10 ∷ []))) ∙ ap (says s₀) (sym up_to)),
+  same : (k d : ℕ) → k < length piece → get_or rest k d ≡ get_or piece k d
+  same k d l = ap (λ t. get_or t k d) parts ∙ get_or_append_left piece rest' d k l
+
+  front_no_end : NoEnd front
+  unfolding front
+  front_no_end k d l =
+      let n : length front ≡ length piece - 1 = length-take-le _ piece (omega arith) in
+      subst (λ c. eqb c 10 ≡ false) (same k d (omega arith) ∙ sym (get_or-take _ piece k d (omega arith))) (first.0 k d (omega arith) (omega arith))
+
+  piece_no_end : ends ≡ false → NoEnd piece
+  piece_no_end unended k d l =
+      ⊎_elim
+      (λ in_rest.
+      let last : get_or piece i 0 ≡ 10 = sym (same i 0 (omega arith)) ∙ eqb-true _ 10 (first.1 in_rest 0) in
+      let line : piece ≡ take i piece ++ (10 ∷ []) = sym (take_all (i + 1) piece (omega arith)) ∙ take_more piece i 0 (omega arith) ∙ ap (λ c. take i piece ++ (c ∷ [])) last in
+      let ended = (ends_is decides piece (10 ∷ []) ends tested).1 (take i piece) line in
+      cc)
+      (λ none. subst (λ c. eqb c 10 ≡ false) (same k d l) (first.0 k d (omega arith) (omega arith)))
+      (cases_lt i (length rest))
+
+  -- the line that it ends was carried out
+  pub piece_ended : ends ≡ true → (r : Result (Unit {0}) AllocError) (s' : State) (out' : List ℕ) → is_ok r ≡ true → LineEnded s piece out r s' out' → (s' ≡ fed s piece) × (out' ≡ out ++ says s piece)
+  unfolding front
+  piece_ended end (Err e) s' out' ok done = cc
+  piece_ended end (Ok u) s' out' ok done =
+      let line : piece ≡ front ++ (10 ∷ []) = (ends_is decides piece (10 ∷ []) ends tested).0 end in (
+        done.0 ∙ ap (λ l. ended s (clipped (s.kept ++ l))) line ∙ sym (fed_line s front front_no_end) ∙ ap (fed s) (sym line),
+        done.1 ∙ ap (λ t. out ++ t) (ap (λ l. ended_says s (clipped (s.kept ++ l))) line ∙ sym (says_line s front front_no_end) ∙ ap (says s) (sym line)),
       )
 
-  -- the bytes behind the last line of the block are kept
-  pub rest_kept : (s' : State) → no_end (take (length block - taken) (drop taken block)) ≡ true → s' ≡ goes_on s (clipped (s.kept ++ take (length block - taken) (drop taken block)))
-      → (s' ≡ fed s₀ block) × (out ≡ out₀ ++ says s₀ block)
-  rest_kept s' none kept =
-      let rest = take (length block - taken) (drop taken block) in (
-        kept ∙ sym (fed-no_end s rest none few) ∙ ap (λ t. fed t rest) is ∙ sym (fed-append s₀ (take taken block) rest) ∙ ap (fed s₀) (sym (split_at taken block)),
-        said ∙ ap (λ t. out₀ ++ t) (sym (append-nil (says s₀ (take taken block))) ∙ ap (λ t. says s₀ (take taken block) ++ t) (sym (says-no_end (fed s₀ (take taken block)) rest none)) ∙ sym (says-append s₀ (take taken block) rest) ∙ ap (says s₀) (sym (split_at taken block))),
-      )
+  -- its bytes were kept
+  pub piece_kept : ends ≡ false → 0 < length rest → (s' : State) → s' ≡ goes_on s (clipped (s.kept ++ piece)) → (s' ≡ fed s piece) × (out ≡ out ++ says s piece)
+  piece_kept unended some s' kept =
+      let none = piece_no_end unended in
+      (kept ∙ sym (fed_kept s piece (omega arith) none), sym (append-nil out) ∙ ap (λ t. out ++ t) (sym (says_kept s piece none)))

@@ -1,5 +1,5 @@
 -- The input as it arrives: what is kept of a line whose end has not come, and what each byte does and prints.
-use Rattle.std.specs.Prelude.{◌≡◌, ℕ, ◌+◌, ◌-◌, ◌<◌, ◌≤◌, min, Bool, true, cond, not, ◌&&◌, List, [], ◌∷◌, ◌++◌, length, take, Some, None, Ok, Err, Option, Result, ◌==◌}
+use Rattle.std.specs.Prelude.{◌≡◌, ℕ, ◌+◌, ◌≤◌, min, cond, List, [], ◌∷◌, ◌++◌, length, take, Ok, Err, Result, ◌==◌}
 use Rattle.std.specs.declared.alloc.AllocError.{AllocError}
 use Rattle.evening_desk.specs.declared.desk.Desk.{Desk}
 use Rattle.evening_desk.specs.Evening.{Held, held, after, printed}
@@ -14,7 +14,7 @@ pub record State : Type 0 where
   pub kept : List ℕ
 
 abbrev pub state_of : Stream → Desk → State
-state_of s d = record { desk = held d; lines = s.lines; kept = take s.len s.bytes }
+state_of s d = record { desk = held d; lines = s.lines; kept = s.kept.items }
 
 -- a line's number: lines are counted from 1, by numbers of 64 bits
 abbrev pub next : ℕ → ℕ
@@ -72,16 +72,6 @@ Fed s block out (Err (Memory taken)) s' out' = (taken ≤ length block) × (s' �
 abbrev pub Finished : State → List ℕ → Result (Unit {0}) Stop → State → List ℕ → Type 0
 Finished s out (Ok u) s' out' = (s' ≡ finished s) × (out' ≡ out ++ finished_says s)
 Finished s out (Err (Memory taken)) s' out' = (taken ≡ 0) × (s' ≡ s) × (out' ≡ out)
-
--- no byte is an LF
-abbrev pub no_end : List ℕ → Bool
-no_end [] = true
-no_end (c ∷ cs) = not (c == 10) && no_end cs
-
--- where the first line ends: nowhere, or behind the n-th byte, which is its LF
-abbrev pub FirstLine : List ℕ → Option ℕ → Type 0
-FirstLine bs None = no_end bs ≡ true
-FirstLine bs (Some n) = (0 < n) × (n ≤ length bs) × (no_end (take (n - 1) bs) ≡ true) × (take n bs ≡ take (n - 1) bs ++ (10 ∷ []))
 
 -- what the end of a line leaves: all that the line does and prints, or, for want of memory, everything as it was
 abbrev pub LineEnded : State → List ℕ → List ℕ → Result (Unit {0}) AllocError → State → List ℕ → Type 0

@@ -1,13 +1,14 @@
 // The calls on a stream: feed a block, end the input.
-ghost use Rattle.std.specs.Prelude.{◌≡◌, ℕ, ◌+◌, ◌-◌, ◌<◌, ◌≤◌, true, false, [], ◌∷◌, ◌++◌, length, take, is_ok};
+ghost use Rattle.std.specs.Prelude.{◌≡◌, true, length, take, is_ok, ◌++◌};
 ghost use Rattle.evening_desk.specs.Evening.{held};
-ghost use Rattle.evening_stream.specs.Input.{state_of, clipped, Fed, Finished, LineEnded, FirstLine};
+ghost use Rattle.evening_stream.specs.Input.{state_of, clipped, goes_on, Fed, Finished, LineEnded};
 ghost use Rattle.evening_stream.specs.Whole.{fresh, ByItsLines};
 
+use crate::Stream;
 use crate::fault::Stop;
-use crate::{MAX_KEPT, Stream};
+use arrayvec::ArrayVec;
 use evening_desk::Desk;
-use std::alloc::{AllocError, Global};
+use std::alloc::AllocError;
 
 impl Stream {
     // The start of the input.
@@ -15,8 +16,7 @@ impl Stream {
         ensures { (d : Desk) → state_of result d ≡ fresh (held d) }
     {
         Stream {
-            bytes: [0; MAX_KEPT],
-            len: 0,
+            kept: ArrayVec::new(),
             lines: 0,
         }
     }
@@ -26,92 +26,70 @@ impl Stream {
     pub fn feed(
         &mut self,
         desk: &mut Desk<'_, '_>,
-        heap: Global,
         block: &[u8],
         out: &mut Vec<u8>,
     ) -> Result<(), Stop>
         ensures { Fed (state_of self.old desk.old) block.now out.old.items result (state_of self.new desk.new) out.new.items }
     {
+        // Counted along: want of memory tells how much of the block was taken.
         let mut taken = 0;
-        while let Some(n) = line_len(&block[taken..]) {
-            let line = &block[taken..taken + n];
-            if self.end_line(desk, heap, line, out).is_err() {
-                return Err(Stop::Memory { taken });
+        for line in block.split_inclusive(|b| *b == b'\n') {
+            if line.ends_with(b"\n") {
+                self.end_line(desk, line, out)
+                    .map_err(|_| Stop::Memory { taken })?;
+            } else {
+                self.keep(line);
             }
-            taken += n;
+            taken += line.len();
         }
-        self.keep(&block[taken..]);
         Ok(())
     }
 
     // Ends the input: bytes behind the last LF are a line with no LF. However the input was cut into blocks, all that was printed is
     // what its lines print in their order. For want of memory nothing changes.
-    pub fn end(
-        &mut self,
-        desk: &mut Desk<'_, '_>,
-        heap: Global,
-        out: &mut Vec<u8>,
-    ) -> Result<(), Stop>
+    pub fn end(&mut self, desk: &mut Desk<'_, '_>, out: &mut Vec<u8>) -> Result<(), Stop>
         ensures value { Finished (state_of self.old desk.old) out.old.items result (state_of self.new desk.new) out.new.items }
         ensures whole { is_ok result ≡ true → ByItsLines (state_of self.old desk.old) out.old.items out.new.items }
     {
-        if self.len == 0 {
+        if self.kept.is_empty() {
             return Ok(());
         }
-        match self.end_line(desk, heap, &[], out) {
-            Ok(()) => Ok(()),
-            Err(_) => Err(Stop::Memory { taken: 0 }),
-        }
+        self.end_line(desk, &[], out)
+            .map_err(|_| Stop::Memory { taken: 0 })
     }
 
     // The line that has not ended ends with these bytes, and is carried out. Where there is no memory to print it, nothing changes.
     fn end_line(
         &mut self,
         desk: &mut Desk<'_, '_>,
-        heap: Global,
         rest: &[u8],
         out: &mut Vec<u8>,
     ) -> Result<(), AllocError>
         ensures { LineEnded (state_of self.old desk.old) rest.now out.old.items result (state_of self.new desk.new) out.new.items }
     {
         let number = self.lines.saturating_add(1);
-        let from = self.len;
-        if from == 0 {
-            desk.work(heap, number, rest, out)?;
+        let from = self.kept.len();
+        // A line of which nothing is kept is carried out where it stands in its block. Two calls: a reference that is one of two borrows has no rule.
+        let worked = if from == 0 {
+            desk.work(number, rest, out)
         } else {
             self.keep(rest);
-            let n = self.len;
-            if let Err(e) = desk.work(heap, number, &self.bytes[0..n], out) {
-                self.len = from;
-                return Err(e);
-            }
-        }
+            desk.work(number, self.kept.as_slice(), out)
+        };
+        // Cut back in both cases: where the line was worked, nothing is kept of it in the end.
+        self.kept.truncate(from);
+        worked?;
         self.lines = number;
-        self.len = 0;
+        self.kept.clear();
         Ok(())
     }
 
     // Keeps more bytes of the line that has not ended, as many as there is a place for.
     fn keep(&mut self, more: &[u8])
-        ensures kept { take self.new.len self.new.bytes ≡ clipped (take self.old.len self.old.bytes ++ more.now) }
-        ensures front { take self.old.len self.new.bytes ≡ take self.old.len self.old.bytes }
-        ensures lines { self.new.lines ≡ self.old.lines }
+        ensures kept { (d : Desk) → state_of self.new d ≡ goes_on (state_of self.old d) (clipped (self.old.kept.items ++ more.now)) }
+        ensures front { take (length self.old.kept.items) self.new.kept.items ≡ self.old.kept.items }
     {
-        let from = self.len;
-        let n = more.len().min(MAX_KEPT - from);
-        self.bytes[from..from + n].copy_from_slice(&more[0..n]);
-        self.len = from + n;
+        let n = self.kept.remaining_capacity().min(more.len());
+        self.kept.try_extend_from_slice(&more[..n]).unwrap();
     }
-}
-
-// The length of the first line, its LF included.
-fn line_len(bytes: &[u8]) -> Option<usize>
-    ensures { FirstLine bytes.now result }
-{
-    for (i, b) in bytes.iter().enumerate() {
-        if *b == b'\n' {
-            return Some(i + 1);
-        }
-    }
-    None
 }

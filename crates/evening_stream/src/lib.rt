@@ -1,21 +1,19 @@
 // The evening as its input arrives: blocks of any size go in, lines are carried out as they end, and what they print comes out.
 #![tactic(auto)]
 
-ghost use Rattle.std.specs.Prelude.{◌≤◌};
-
 mod calls;
 mod fault;
 
+use arrayvec::ArrayVec;
 pub use fault::Stop;
 
 // The most bytes that are kept of a line: one more than a line may have before its LF.
 const MAX_KEPT: usize = 401;
 
-// The bytes of a line whose end has not come yet, and how many lines have ended.
+// The bytes of a line whose end has not come yet, and how many lines have ended. The desk and the output are lent to each call: a
+// stream that held them would keep its caller from both between two blocks.
 #[derive(Drop)]
 pub struct Stream {
-    bytes: [u8; MAX_KEPT],
-    len: usize,
+    kept: ArrayVec<u8, MAX_KEPT>,
     lines: u64,
-    ghost few: { len ≤ 401 },
 }

@@ -1,32 +1,18 @@
 -- What filing, updating, removing and compacting leave of a list that ascends.
-use Rattle.std.proofs.Common.{◌≡◌, ℕ, zero, suc, ◌+◌, ◌-◌, ◌<◌, ◌≤◌, min, Bool, true, false, cond, List, [], ◌∷◌, ◌++◌, length, get_or, take, drop, set, Ok, Err, filter, sym, refl, ap, ◌∙◌, subst, ⊎_elim, add-one, arith}
+use Rattle.std.proofs.Common.{◌≡◌, ℕ, zero, suc, ◌+◌, ◌-◌, ◌<◌, ◌≤◌, Bool, true, false, cond, List, [], ◌∷◌, ◌++◌, length, get_or, take, drop, set, Ok, Err, filter, sym, refl, ap, ◌∙◌, subst, ⊎_elim, add-one, arith}
 use Rattle.std.specs.List.{insert, remove, AllByRecursion as All}
-use Rattle.std.proofs.lemmas.List.Edits.{length-between}
-use Rattle.std.proofs.lemmas.List.{take_all, take-take, take_at, drop-drop, length-set, length-drop, length-take-le, length-append, append_assoc, set_at, get_or_read, get_or-set_same, get_or-set_other}
-use Rattle.std.proofs.lemmas.Slice.{between_is}
+use Rattle.std.proofs.lemmas.List.Edits.{length-between, length-remove}
+use Rattle.std.proofs.lemmas.List.{append-nil, drop_all, take-take, take-append-le, take_at, length-set, length-drop, length-take-le, set_at, get_or_read, get_or-set_same, get_or-set_other}
+use Rattle.std.proofs.lemmas.Slice.{between_is, put_mid-rotated}
 use Rattle.std.proofs.ByRecursion.{All-get_or, All-from_get_or, all_kept_by, All-weaker}
-use Rattle.std.proofs.lemmas.Bool.{both_ways, cases_Bool, cases_lt, cases_eq, cond-true, cond-false, not-false, lt-ltb}
+use Rattle.std.proofs.lemmas.Bool.{cases_Bool, cases_eq, cond-true, cond-false, not-false, lt-ltb}
+use Rattle.std.proofs.Math.Bridge.{le_prop}
 use borrow.Rule.Slice.PartMut.{put_mid}
+use borrow.Rule.Slice.Mut.{set_vals}
 use Rattle.ordered.specs.Ranking.{Lawful}
+use Rattle.ordered.specs.declared.file.OrderedFile.{OrderedFile}
 use Rattle.ordered.specs.Files.{Ascends, place, holds, located, filed, insertion}
-use Rattle.ordered.proofs.Order.{same_not_before, Ascends-far}
-
--- a front that is clipped to the list is the front
-pub take_min : {T : Type 0} (n : ℕ) (xs : List T) → take (min n (length xs) - 0) xs ≡ take n xs
-take_min n xs =
-    ⊎_elim
-    (λ l. ap (λ k. take k xs) (omega arith))
-    (λ l. ap (λ k. take k xs) (omega arith) ∙ take_all (length xs) xs (omega arith) ∙ sym (take_all n xs l))
-    (cases_lt n (length xs))
-
--- a write at the front is a write to the front
-pub take_of_set : {T : Type 0} (n : ℕ) (xs : List T) (i : ℕ) (y : T) → take n (set xs i y) ≡ set (take n xs) i y
-take_of_set zero [] i y = refl
-take_of_set zero (x ∷ xs) zero y = refl
-take_of_set zero (x ∷ xs) (suc i) y = refl
-take_of_set (suc n) [] i y = refl
-take_of_set (suc n) (x ∷ xs) zero y = refl
-take_of_set (suc n) (x ∷ xs) (suc i) y = ap (λ t. x ∷ t) (take_of_set n xs i y)
+use Rattle.ordered.proofs.Order.{same_before, same_after, Ascends-far}
 
 -- a record is filed at its place
 pub filed_inserted : {T : Type 0} (before : T → T → Bool) (one : T) (xs : List T) → filed before one xs ≡ insert xs (place before one xs) one
@@ -82,21 +68,6 @@ module _ {T : Type 0} {before : T → T → Bool} {fields : T → List ℕ} (law
   pub Ascends-kept_by : (p : T → Bool) (xs : List T) → Ascends before xs → Ascends before (filter p xs)
   Ascends-kept_by p xs up = Ascends-from_chain _ (Chain-kept_by p xs (Chain-from_ascends xs up))
 
-  -- records of the same rank come before, and after, the same records
-  pub same_before : (x y z : T) → fields x ≡ fields y → before x z ≡ true → before y z ≡ true
-  same_before x y z e b =
-      ⊎_elim
-      (λ h. h.0)
-      (λ h. ⊎_elim (λ m. absurd (both_ways _ (same_not_before law x z (e ∙ m.1)) b)) (λ a. absurd (both_ways _ (same_not_before law x y e) (law.trans _ _ _ b a.2))) h)
-      (law.one y z)
-
-  pub same_after : (x y z : T) → fields x ≡ fields y → before z x ≡ true → before z y ≡ true
-  same_after x y z e b =
-      ⊎_elim
-      (λ h. h.0)
-      (λ h. ⊎_elim (λ m. absurd (both_ways _ (same_not_before law z x (m.1 ∙ sym e)) b)) (λ a. absurd (both_ways _ (same_not_before law y x (sym e)) (law.trans _ _ _ a.2 b))) h)
-      (law.one z y)
-
   -- a record of the same rank may take another's place
   pub Ascends-set : (xs : List T) (i : ℕ) (x y : T) → i < length xs → x ≡ get_or xs i x → fields x ≡ fields y → Ascends before xs → Ascends before (set xs i y)
   Ascends-set xs i x y l read e up k d n =
@@ -107,13 +78,13 @@ module _ {T : Type 0} {before : T → T → Bool} {fields : T → List ℕ} (law
       (λ eq.
       let first : get_or (set xs i y) k d ≡ y = ap (λ j. get_or (set xs i y) j d) eq ∙ get_or-set_same xs i y d l in
       let second : get_or (set xs i y) (k + 1) d ≡ get_or xs (k + 1) d = get_or-set_other xs i (k + 1) y d (omega arith) in
-      rw (first, second) (same_before x y _ e (subst (λ z. before z (get_or xs (k + 1) d) ≡ true) (ap (λ j. get_or xs j d) eq ∙ sym at_i) here)))
+      rw (first, second) (same_before law x y _ e (subst (λ z. before z (get_or xs (k + 1) d) ≡ true) (ap (λ j. get_or xs j d) eq ∙ sym at_i) here)))
       (λ ne.
       let first : get_or (set xs i y) k d ≡ get_or xs k d = get_or-set_other xs i k y d ne in
       ⊎_elim
       (λ eq.
       let second : get_or (set xs i y) (k + 1) d ≡ y = ap (λ j. get_or (set xs i y) j d) eq ∙ get_or-set_same xs i y d l in
-      rw (first, second) (same_after x y _ e (subst (λ z. before (get_or xs k d) z ≡ true) (ap (λ j. get_or xs j d) eq ∙ sym at_i) here)))
+      rw (first, second) (same_after law x y _ e (subst (λ z. before (get_or xs k d) z ≡ true) (ap (λ j. get_or xs j d) eq ∙ sym at_i) here)))
       (λ other. let second : get_or (set xs i y) (k + 1) d ≡ get_or xs (k + 1) d = get_or-set_other xs i (k + 1) y d other in rw (first, second) here)
       (cases_eq (k + 1) i))
       (cases_eq k i)
@@ -141,13 +112,6 @@ located_err before key xs at e =
     (λ h. (h, let same : Err at ≡ Err (place before key xs) = e ∙ cond-false _ _ _ h in grind arith))
     (cases_Bool (holds before key xs))
 
-pub located_ok : {T : Type 0} (before : T → T → Bool) (key : T) (xs : List T) (at : ℕ) → Ok at ≡ located before key xs → holds before key xs ≡ true
-located_ok before key xs at e =
-    ⊎_elim
-    (λ h. h)
-    (λ h. absurd (let no-err : Ok at ≡ Err (place before key xs) = e ∙ cond-false _ _ _ h in grind arith))
-    (cases_Bool (holds before key xs))
-
 -- an insertion that is carried out
 pub insertion_ok : {T : Type 0} (before : T → T → Bool) (n : ℕ) (xs : List T) (one : T) → holds before one xs ≡ false → length xs < n → insertion before n xs one ≡ Ok (filed before one xs)
 insertion_ok before n xs one h l = cond-false _ _ _ h ∙ cond-true _ _ _ (lt-ltb _ _ l)
@@ -157,13 +121,6 @@ one_element [] e = absurd (omega arith)
 one_element (x ∷ []) e = (x, refl)
 one_element (x ∷ (y ∷ xs)) e = absurd (omega arith)
 
--- one written over the first of what stands behind a front
-written_over : {T : Type 0} (p q post : List T) (z one : T) (at count : ℕ) → length p ≡ at → length q ≡ count - at → at ≤ count → take (count + 1) (set (p ++ ((z ∷ q) ++ post)) at one) ≡ p ++ (one ∷ q)
-written_over p q post z one at count front behind l =
-    let whole : length (p ++ (one ∷ q)) ≡ count + 1 = length-append p (one ∷ q) ∙ omega arith in
-    let grouped : p ++ (one ∷ (q ++ post)) ≡ (p ++ (one ∷ q)) ++ post = sym (append_assoc p (one ∷ q) post) in
-    ap (take (count + 1)) (set_at p z (q ++ post) one at front ∙ grouped) ∙ take_at (p ++ (one ∷ q)) post (count + 1) whole
-
 -- a list turned by one, its last element first
 turned_by_one : {T : Type 0} (part q : List T) (n : ℕ) → length part ≡ n + 1 → take n part ≡ q → (z : T) × (drop (length part - 1) part ++ take (length part - 1) part ≡ z ∷ q)
 turned_by_one part q n long rest =
@@ -171,35 +128,49 @@ turned_by_one part q n long rest =
     let shorter : length part - 1 ≡ n = omega arith in
     (last.0, (λ i. last.1 i ++ take (shorter i) part) ∙ ap (λ t. last.0 ∷ t) rest)
 
--- the records from `at` to `count` turned by one, and one written over the first
-pub put_in : {T : Type 0} (xs : List T) (at count : ℕ) (one : T) (ys : List T) → at ≤ count → count < length xs
-    → ys ≡ drop (length (take (count + 1 - at) (drop at xs)) - 1) (take (count + 1 - at) (drop at xs)) ++ take (length (take (count + 1 - at) (drop at xs)) - 1) (take (count + 1 - at) (drop at xs))
-    → take (count + 1) (set (put_mid at (count + 1 - at) xs ys) at one) ≡ insert (take count xs) at one
-put_in xs at count one ys l m turned =
-    let q = drop at (take count xs) in
-    let n_is : count + 1 - at ≡ count - at + 1 = omega arith in
-    let long : length (take (count + 1 - at) (drop at xs)) ≡ count - at + 1 = length-between xs at (count + 1) (omega arith) ∙ n_is in
-    let rest : take (count - at) (take (count + 1 - at) (drop at xs)) ≡ q = take-take (count - at) (count + 1 - at) (drop at xs) (omega arith) ∙ between_is xs at count in
-    let round = turned_by_one (take (count + 1 - at) (drop at xs)) q (count - at) long rest in
-    let front : length (take at xs) ≡ at = length-take-le at xs (omega arith) in
-    let behind : length q ≡ count - at = length-drop at (take count xs) ∙ ap (λ k. k - at) (length-take-le count xs (omega arith)) in
-    ap (λ t. take (count + 1) (set (take at xs ++ (t ++ drop (count + 1 - at) (drop at xs))) at one)) (turned ∙ round.1)
-    ∙ written_over (take at xs) q (drop (count + 1 - at) (drop at xs)) round.0 one at count front behind l
-    ∙ ap (λ t. t ++ (one ∷ q)) (sym (take-take at count xs l))
+-- the records from `at` on turned by one, and one written over the first of them
+pub put_in : {T : Type 0} (xs : List T) (at : ℕ) (one : T) (ys : List T) → at < length xs
+    → ys ≡ drop (length (take (length xs - at) (drop at xs)) - 1) (take (length xs - at) (drop at xs)) ++ take (length (take (length xs - at) (drop at xs)) - 1) (take (length xs - at) (drop at xs))
+    → set (put_mid at (length xs - at) xs ys) at one ≡ insert (take (length xs - 1) xs) at one
+put_in xs at one ys l turned =
+    let n = length xs - 1 in
+    let q = drop at (take n xs) in
+    let long : length (take (length xs - at) (drop at xs)) ≡ n - at + 1 = length-between xs at (length xs) (omega arith) ∙ omega arith in
+    let rest : take (n - at) (take (length xs - at) (drop at xs)) ≡ q = take-take (n - at) (length xs - at) (drop at xs) (omega arith) ∙ between_is xs at n in
+    let round = turned_by_one (take (length xs - at) (drop at xs)) q (n - at) long rest in
+    let none : drop (length xs - at) (drop at xs) ≡ [] = drop_all (length xs - at) (drop at xs) (omega (arith, length-drop at xs)) in
+    let whole : put_mid at (length xs - at) xs ys ≡ take at xs ++ (round.0 ∷ q) =
+    ◌∙◌ {b = take at xs ++ ((round.0 ∷ q) ++ [])} (λ i. take at xs ++ ((turned ∙ round.1) i ++ none i)) (ap (λ t. take at xs ++ t) (append-nil (round.0 ∷ q))) in
+    ap (λ t. set t at one) whole
+    ∙ set_at (take at xs) round.0 q one at (length-take-le at xs (omega arith))
+    ∙ ap (λ t. t ++ (one ∷ q)) (sym (take-take at n xs (omega arith)))
 
--- the record at `at` turned to behind the count, and so out of use
-pub take_out : {T : Type 0} (xs : List T) (at count : ℕ) (ys : List T) → at < count → count ≤ length xs
-    → ys ≡ drop 1 (take (count - at) (drop at xs)) ++ take 1 (take (count - at) (drop at xs))
-    → take (count - 1) (put_mid at (count - at) xs ys) ≡ remove (take count xs) at
-take_out xs at count ys l m turned =
-    let part = take (count - at) (drop at xs) in
-    let tail = drop (suc at) (take count xs) in
-    let front : length (take at xs) ≡ at = length-take-le at xs (omega arith) in
-    let rest : drop 1 part ≡ tail = ap (drop 1) (between_is xs at count) ∙ drop-drop 1 at (take count xs) ∙ ap (λ k. drop k (take count xs)) (add-one at) in
-    let post = drop (count - at) (drop at xs) in
-    let ys-is : ys ≡ tail ++ take 1 part = turned ∙ ap (λ t. t ++ take 1 part) rest in
-    let tail-long : length tail ≡ count - suc at = length-drop (suc at) (take count xs) ∙ ap (λ k. k - suc at) (length-take-le count xs m) in
-    let whole : length (take at xs ++ tail) ≡ count - 1 = length-append (take at xs) tail ∙ omega arith in
-    let grouped : put_mid at (count - at) xs ys ≡ (take at xs ++ tail) ++ (take 1 part ++ post) =
-    ap (λ t. take at xs ++ (t ++ post)) ys-is ∙ ap (λ t. take at xs ++ t) (append_assoc tail (take 1 part) post) ∙ sym (append_assoc (take at xs) tail (take 1 part ++ post)) in
-    ap (take (count - 1)) grouped ∙ take_at (take at xs ++ tail) (take 1 part ++ post) (count - 1) whole ∙ ap (λ t. t ++ tail) (sym (take-take at count xs (omega arith)))
+-- the record at `at` turned behind the others, and the others alone
+pub take_out : {T : Type 0} (xs : List T) (at : ℕ) (ys : List T) → at < length xs
+    → ys ≡ drop 1 (take (length xs - at) (drop at xs)) ++ take 1 (take (length xs - at) (drop at xs))
+    → take (length xs - 1) (put_mid at (length xs - at) xs ys) ≡ remove xs at
+take_out [] at ys l turned = absurd (omega arith)
+take_out (x ∷ xs) at ys l turned =
+    ap (take (length (x ∷ xs) - 1)) (put_mid-rotated at _ (x ∷ xs) ys x l (omega arith) turned)
+    ∙ take_at (remove (x ∷ xs) at) (get_or (x ∷ xs) at x ∷ []) (length (x ∷ xs) - 1) (omega (arith, length-remove (x ∷ xs) at l))
+
+-- the memory after a record was put in among the first n records of it
+pub filed_in_memory : {T : Type 0} (before : T → T → Bool) (one : T) (xs : List T) (n at : ℕ) (ys : List T) → n < length xs → at ≡ place before one (take n xs) → length ys ≡ n + 1
+    → ys ≡ insert (take (length (take (n + 1) xs) - 1) (take (n + 1) xs)) at one → take (n + 1) (ys ++ drop (n + 1) xs) ≡ filed before one (take n xs)
+filed_in_memory before one xs n at ys l is long put =
+    let first : take (length (take (n + 1) xs) - 1) (take (n + 1) xs) ≡ take n xs =
+    ap (λ k. take k (take (n + 1) xs)) (omega (arith, length-take-le (n + 1) xs)) ∙ take-take n (n + 1) xs (omega arith) in
+    take_at ys (drop (n + 1) xs) (n + 1) long ∙ put ∙ (λ i. insert (first i) (is i) one) ∙ sym (filed_inserted before one (take n xs))
+
+-- the memory after a record was taken out of the first n records of it
+pub removed_in_memory : {T : Type 0} (xs : List T) (n at : ℕ) (ys : List T) → n ≤ length xs → length ys ≡ n → take (length (take n xs) - 1) ys ≡ remove (take n xs) at → take (n - 1) (ys ++ drop n xs) ≡ remove (take n xs) at
+removed_in_memory xs n at ys l long out =
+    take-append-le (n - 1) ys (drop n xs) (omega arith) ∙ ap (λ k. take (k - 1) ys) (sym (length-take-le n xs l)) ∙ out
+
+-- a file whose memory holds what it held, and which counts as many, is the same file
+pub same_file : {T : Type 0} (f : OrderedFile T) (m : List T) (n : ℕ) (s : n ≤ length m) → m ≡ f.memory.now → n ≡ f.count → record { memory = set_vals m f.memory; count = n; sized = s } ≡ f
+same_file {T} f m n s held counted =
+    subst (λ l. (q : n ≤ length l) → record { memory = set_vals l f.memory; count = n; sized = q } ≡ f) (sym held)
+    (subst (λ k. (q : k ≤ length f.memory.now) → record { memory = f.memory; count = k; sized = q } ≡ f) (sym counted)
+    (λ q. ap (λ p. record { memory = f.memory; count = f.count; sized = p }) (le_prop q f.sized)))
+    s

@@ -13,10 +13,6 @@ in_use f = take f.count f.memory.now
 abbrev pub room : {T : Type 0} → OrderedFile T → ℕ
 room f = length f.memory.now
 
--- no more records are counted than the memory holds
-abbrev pub Sized : {T : Type 0} → OrderedFile T → Type 0
-Sized f = f.count ≤ room f
-
 -- each record comes before the next one
 abbrev pub Ascends : {T : Type 0} → (T → T → Bool) → List T → Type 0
 Ascends {T} before xs = (k : ℕ) (d : T) → k + 1 < length xs → before (slice_index_or xs k d) (slice_index_or xs (k + 1) d) ≡ true

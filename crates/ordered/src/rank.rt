@@ -5,7 +5,8 @@ ghost use Rattle.ordered.specs.Ranking.{Lawful};
 
 use std::cmp::Ordering;
 
-// A record with a ranking.
+// A record with a ranking. It is no `Ord`: records of one rank may differ in the fields that are not ranked, and `Ord` answers `Equal` only where
+// `==` holds.
 pub trait Rank {
     // The fields that the record is ranked by; records that agree in all of them have the same rank.
     ghost fields: { Self → List ℕ };

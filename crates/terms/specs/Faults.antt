@@ -4,6 +4,8 @@ use Rattle.terms.specs.declared.faults.ReaderFault.{ReaderFault}
 use Rattle.terms.specs.declared.faults.ReaderFault.TheVariants as reader
 use Rattle.terms.specs.declared.faults.DirectoryFault.{DirectoryFault}
 use Rattle.terms.specs.declared.faults.DirectoryFault.TheVariants as directory
+use Rattle.ordered.specs.declared.file.InsertFault.{InsertFault}
+use Rattle.ordered.specs.declared.file.InsertFault.TheVariants as ordered
 use Rattle.terms.specs.declared.faults.LineFault.{LineFault}
 use Rattle.terms.specs.declared.faults.LineFault.TheVariants.{Reader, Directory}
 
@@ -19,6 +21,11 @@ directory_number directory.Form = 1
 directory_number directory.Present = 2
 directory_number directory.Full = 3
 directory_number directory.Missing = 4
+
+-- what the ordered file refuses, as the directory tells it
+abbrev pub as_directory : InsertFault → DirectoryFault
+as_directory ordered.Present = directory.Present
+as_directory ordered.Full = directory.Full
 
 -- the name of the part that refused a line
 abbrev pub part_of : LineFault → List ℕ

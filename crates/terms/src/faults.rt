@@ -1,51 +1,49 @@
 // The refusals of every part, each by its number, and a refused line's fault, which tells the part too.
 ghost use Rattle.std.specs.Prelude.{◌≡◌, Some};
 ghost use Rattle.terms.specs.declared.faults.LineFault.TheVariants.{Reader, Directory};
-ghost use Rattle.terms.specs.Faults.{reader_number, directory_number, part_of, number_of, fault_text};
+ghost use Rattle.terms.specs.Faults.{reader_number, directory_number, as_directory, fault_text};
 
+use ordered::InsertFault;
 use std::fmt;
 
 // Why the reader refuses a line, in the order of precedence.
-#[derive(Clone, Copy)]
+#[derive(Clone, Copy, Debug, PartialEq, Eq)]
 pub enum ReaderFault {
-    // 26: over 400 bytes before the LF, or no LF.
-    Length,
-    // 27: the letter, a letter word or the count of words is wrong.
-    Form,
-    // 28: a number is not an optional minus and 1 to 12 digits.
-    Number,
+    // Over 400 bytes before the LF, or no LF.
+    Length = 26,
+    // The letter, a letter word or the count of words is wrong.
+    Form = 27,
+    // A number is not an optional minus and 1 to 12 digits.
+    Number = 28,
 }
 
 // Why a code is not entered or not found, in the order of precedence.
-#[derive(Clone, Copy)]
+#[derive(Clone, Copy, Debug, PartialEq, Eq)]
 pub enum DirectoryFault {
-    // 1: the code is not 1 to 12 bytes of A to Z and 0 to 9.
-    Form,
-    // 2: the code is there already.
-    Present,
-    // 3: all entries are in use.
-    Full,
-    // 4: no entry has this code.
-    Missing,
+    // The code is not 1 to 12 bytes of A to Z and 0 to 9.
+    Form = 1,
+    // The code is there already.
+    Present = 2,
+    // All entries are in use.
+    Full = 3,
+    // No entry has this code.
+    Missing = 4,
 }
 
 // Why a line is refused: the part that refused it, with that part's own fault.
-#[derive(Clone, Copy)]
+#[derive(Clone, Copy, Debug, PartialEq, Eq)]
 pub enum LineFault {
     Reader(ReaderFault),
     Directory(DirectoryFault),
 }
 
+// Each part's fault tells its number by itself: a cast is written for one enum, and no generic function can make it.
 impl ReaderFault {
     // The number of the refusal.
     pub fn number(&self) -> u32
         ensures { result ≡ reader_number self.now }
     {
-        match self {
-            ReaderFault::Length => 26,
-            ReaderFault::Form => 27,
-            ReaderFault::Number => 28,
-        }
+        *self as u32
     }
 }
 
@@ -54,33 +52,20 @@ impl DirectoryFault {
     pub fn number(&self) -> u32
         ensures { result ≡ directory_number self.now }
     {
-        match self {
-            DirectoryFault::Form => 1,
-            DirectoryFault::Present => 2,
-            DirectoryFault::Full => 3,
-            DirectoryFault::Missing => 4,
-        }
+        *self as u32
     }
 }
 
-impl LineFault {
-    // The name of the part that refused.
-    pub(crate) fn part(&self) -> &'static str
-        ensures { result.now ≡ part_of self.now }
-    {
-        match self {
-            LineFault::Reader(_) => "reader",
-            LineFault::Directory(_) => "directory",
-        }
-    }
+// What follows is written out: promises rest on what each impl gives. A derive of `thiserror` says nothing of that, and makes none between plain cases.
 
-    // The number of the refusal.
-    pub(crate) fn number(&self) -> u32
-        ensures { result ≡ number_of self.now }
-    {
-        match self {
-            LineFault::Reader(e) => e.number(),
-            LineFault::Directory(e) => e.number(),
+// What the ordered file refuses, as the directory tells it. It stands here, since a `From` stands where one of its two types is declared.
+impl From<InsertFault> for DirectoryFault {
+    ghost from_gives = { λ x y. y ≡ as_directory x };
+
+    fn from(e: InsertFault) -> DirectoryFault {
+        match e {
+            InsertFault::Present => DirectoryFault::Present,
+            InsertFault::Full => DirectoryFault::Full,
         }
     }
 }
@@ -101,13 +86,14 @@ impl From<DirectoryFault> for LineFault {
     }
 }
 
-// The part and the number, as a refused line tells them.
+// A refused line tells the part that refused it, and that part's number.
 impl fmt::Display for LineFault {
     ghost output = { λ x. Some (fault_text x) };
 
     fn fmt<W: fmt::Write>(&self, f: &mut fmt::Formatter<W>) -> fmt::Result {
-        let part = self.part();
-        let number = self.number();
-        write!(f, "{part} {number}")
+        match self {
+            LineFault::Reader(e) => write!(f, "reader {}", e.number()),
+            LineFault::Directory(e) => write!(f, "directory {}", e.number()),
+        }
     }
 }

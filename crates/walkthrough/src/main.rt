@@ -8,7 +8,7 @@ use terms::DirectoryFault;
 // How many contracts the delivery area has, and how many entries the directory.
 const CONTRACTS: u8 = 64;
 
-// The code of one contract of the delivery area NORDWEST.
+// The code of one contract of the delivery area NORDWEST, digit by digit: `write!` answers a `Result`, and two digits always fit.
 fn code_of(n: u8) -> [u8; 10] {
     let mut code = *b"NORDWEST00";
     code[8] = b'0' + n / 10 % 10;
@@ -25,25 +25,17 @@ fn enter_all(contracts: &mut Directory<'_>) -> Result<(), DirectoryFault> {
 }
 
 // How many contracts are found with their own number.
-fn count_found(contracts: &Directory<'_>) -> u32 {
-    let mut found: u32 = 0;
-    for n in 0..CONTRACTS {
-        match contracts.find(&code_of(n)) {
-            Ok(number) if number == u32::from(n) => found = found.saturating_add(1),
-            _ => {}
-        }
-    }
-    found
+fn count_found(contracts: &Directory<'_>) -> usize {
+    (0..CONTRACTS)
+        .filter(|n| contracts.find(&code_of(*n)) == Ok(u32::from(*n)))
+        .count()
 }
 
 // Prints what a call that was to be refused answered.
 fn tell(rt: &HostRuntime, what: &str, answer: Result<u32, DirectoryFault>) -> io::Result<()> {
     match answer {
         Ok(number) => println!(rt; "{what}: number {number}"),
-        Err(fault) => {
-            let number = fault.number();
-            println!(rt; "{what}: refused, {number}")
-        }
+        Err(fault) => println!(rt; "{what}: refused, {}", fault.number()),
     }
 }
 
@@ -54,12 +46,12 @@ fn enter(contracts: &mut Directory<'_>, code: &[u8], number: u32) -> Result<u32,
 }
 
 fn main(rt: HostRuntime) -> io::Result<()> {
+    // By a cast: `usize::from` makes no constant.
     let mut memory = [Entry::NONE; CONTRACTS as usize];
     let mut contracts = Directory::open(&mut memory);
     println!(rt; "delivery area NORDWEST, {CONTRACTS} contracts, codes NORDWEST00 to NORDWEST63")?;
     if let Err(fault) = enter_all(&mut contracts) {
-        let number = fault.number();
-        println!(rt; "a contract was refused, {number}")?;
+        println!(rt; "a contract was refused, {}", fault.number())?;
     }
     let entered = contracts.len();
     let found = count_found(&contracts);

@@ -1,19 +1,19 @@
--- The bytes before the first LF: none of the bytes passed is one.
-use Rattle.std.proofs.Common.{sym, ◌∙◌, arith}
-use Rattle.evening_file.specs.Lines.{up_to}
-use Rattle.evening_file.proofs.Fronts.{front_none}
-use Rattle.evening_file.proofs.LineEnd.{past_more, past_at_end, past_none}
+-- The line ends before the first LF.
+use Rattle.std.proofs.Common.{eqb, take, sym, ap, ◌∙◌, rules, tests}
+use Rattle.std.specs.Option.{option_map}
+use Rattle.std.proofs.lemmas.Iterator.{YieldsList-from_slice}
+use Rattle.std.proofs.lemmas.Iterator.Search.{position_from_yields_List}
+use Rattle.evening_file.proofs.LineEnd.{up_to_place}
 use Rattle.evening_file.proofs.first_line.Goals as goal
 
-pub loop-i-init : goal.loop-i-init
-loop-i-init c = front_none (up_to c.args.input.now)
-
-pub returns-then-byte-eq10 : goal.returns-then-byte-eq10
-returns-then-byte-eq10 c =
-    sym (c.loop-i.invariant ∙ past_at_end c.args.input.now c.loop-i.i _ c.loop-i-test.true c.if-byte-eq10.true (omega arith))
-
-pub loop-i-preserved : goal.loop-i-preserved
-loop-i-preserved c = c.loop-i.invariant ∙ past_more _ _ c.loop-i-test.true c.if-byte-eq10.false
+pub returns-in_err-end : goal.returns-in_err-end
+returns-in_err-end c =
+    let xs = c.args.input.now in
+    let place = position_from_yields_List (λ b. eqb b 10) _ _ c.position.result c.position.ensures.ran (YieldsList-from_slice xs cc) (λ x b q k. search (rules, tests)) in
+    rw c.from_residual.ensures (sym (up_to_place xs ∙ ap (option_map (λ n. take n xs)) (sym place ∙ c.in_err-end.was)))
 
 pub returns : goal.returns
-returns c = sym (c.loop-i.invariant ∙ past_none _ _ c.loop-i-test.false)
+returns c =
+    let xs = c.args.input.now in
+    let place = position_from_yields_List (λ b. eqb b 10) _ _ c.position.result c.position.ensures.ran (YieldsList-from_slice xs cc) (λ x b q k. search (rules, tests)) in
+    sym (up_to_place xs ∙ ap (option_map (λ n. take n xs)) (sym place ∙ c.in_ok-end.was))

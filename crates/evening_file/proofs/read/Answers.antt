@@ -1,19 +1,14 @@
 -- Whatever the definition of a line answers is answered by its letter and words.
-use Rattle.std.proofs.Common.{◌≡◌, Err, rules}
+use Rattle.std.proofs.Common.{Err, rules}
 use Rattle.terms.specs.declared.faults.ReaderFault.TheVariants.{Length}
-use Rattle.evening_file.specs.Lines.{line_said}
-use Rattle.evening_file.specs.Said.{seen}
 use Rattle.evening_file.proofs.Spelling.{by_its_words}
 use Rattle.evening_file.proofs.read.Goals as goal
 
-pub returns-in_default : goal.returns-in_default
-returns-in_default c =
-    let said : seen (Err Length) ≡ line_said c.args.input.now = search rules in record { value = said; words = by_its_words _ (Err Length) said }
+pub returns-in_err-line-clause-words : goal.returns-in_err-line-clause-words
+returns-in_err-line-clause-words c = by_its_words _ c.from_residual.result (search rules)
 
-pub returns-then-line-gt-MAX_LINE : goal.returns-then-line-gt-MAX_LINE
-returns-then-line-gt-MAX_LINE c =
-    let said : seen (Err Length) ≡ line_said c.args.input.now = search rules in record { value = said; words = by_its_words _ (Err Length) said }
+pub returns-then-line-gt-MAX_LINE-clause-words : goal.returns-then-line-gt-MAX_LINE-clause-words
+returns-then-line-gt-MAX_LINE-clause-words c = by_its_words _ (Err Length) (search rules)
 
-pub returns : goal.returns
-returns c =
-    let said : seen c.read_form.result ≡ line_said c.args.input.now = search rules in record { value = said; words = by_its_words _ c.read_form.result said }
+pub returns-clause-words : goal.returns-clause-words
+returns-clause-words c = by_its_words _ c.read_form.result (search rules)

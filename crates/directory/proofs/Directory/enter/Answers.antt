@@ -1,38 +1,22 @@
-use Rattle.std.proofs.Common.{Err, sym, refl, ap, ◌∙◌, rules}
+use Rattle.std.proofs.Common.{◌≡◌, sym, ap, ◌∙◌, rules}
 use Rattle.directory.specs.declared.code.Entry.{Entry}
-use Rattle.directory.specs.Entries.{entries, places}
-use Rattle.directory.proofs.Lookups.{retold_answer, entered, answered}
-use Rattle.directory.proofs.Attempts.{goes_on}
+use Rattle.directory.proofs.Lookups.{retold_answer}
+use Rattle.directory.proofs.Attempts.{attempted}
 use Rattle.directory.proofs.Directory.enter.Goals as goal
 
-pub returns-in-Err : goal.returns-in-Err
-returns-in-Err c =
+pub returns-in_err-insert : goal.returns-in_err-insert
+returns-in_err-insert c =
     let d = c.args.self.now in
-    let e : Entry = record { code = c.in-Some.code; number = c.args.number } in
-    let formed = c.in-Some.ensures in
-    let after = entered d.file e c.args.code.now formed.1 formed.0 d.ascends c.insert.new.self (c.insert.ensures.items d.sized d.ascends) in
-    record {
-      answers =
-          ap Err c.as_fault.ensures ∙ sym (ap retold_answer c.in-Err.is)
-          ∙ answered d.file e c.args.code.now formed.1 formed.0 d.ascends c.insert.result (c.insert.ensures.answers d.sized d.ascends);
-      items = after;
-      room = c.insert.ensures.memory;
-      same = λ _. c.in-Err.ensures.same refl;
-      attempts = goes_on (places d) _ (entries d) _ (record { code = c.args.code.now; number = c.args.number }) c.insert.ensures.memory after;
-    }
+    let e : Entry = record { code = c.in_ok-code.code; number = c.args.number } in
+    let did = c.insert.ensures in
+    let all = attempted d.file e c.args.code.now c.in_ok-code.ensures.1 c.in_ok-code.ensures.0 d.ascends c.insert.new.self c.insert.result (did.answers d.ascends) (did.items d.ascends) did.memory in
+    let same : c.from_residual-in_err-insert.result ≡ retold_answer c.insert.result = search rules in
+    record { answers = same ∙ all.answers; items = all.items; room = did.memory; same = search rules; attempts = all.attempts }
 
-pub returns-in-Ok : goal.returns-in-Ok
-returns-in-Ok c =
+pub returns : goal.returns
+returns c =
     let d = c.args.self.now in
-    let e : Entry = record { code = c.in-Some.code; number = c.args.number } in
-    let formed = c.in-Some.ensures in
-    let after = entered d.file e c.args.code.now formed.1 formed.0 d.ascends c.insert.new.self (c.insert.ensures.items d.sized d.ascends) in
-    record {
-      answers =
-          sym (ap retold_answer c.in-Ok.is)
-          ∙ answered d.file e c.args.code.now formed.1 formed.0 d.ascends c.insert.result (c.insert.ensures.answers d.sized d.ascends);
-      items = after;
-      room = c.insert.ensures.memory;
-      same = search rules;
-      attempts = goes_on (places d) _ (entries d) _ (record { code = c.args.code.now; number = c.args.number }) c.insert.ensures.memory after;
-    }
+    let e : Entry = record { code = c.in_ok-code.code; number = c.args.number } in
+    let did = c.insert.ensures in
+    let all = attempted d.file e c.args.code.now c.in_ok-code.ensures.1 c.in_ok-code.ensures.0 d.ascends c.insert.new.self c.insert.result (did.answers d.ascends) (did.items d.ascends) did.memory in
+    record { answers = sym (ap retold_answer c.in_ok-insert.was) ∙ all.answers; items = all.items; room = did.memory; same = search rules; attempts = all.attempts }

@@ -1,20 +1,15 @@
-use Rattle.std.proofs.Common.{◌≡◌, ◌<◌, ◌≤◌, length, take, vec_items, ap, arith, rules}
-use Rattle.std.proofs.lemmas.List.{length-take}
+use Rattle.std.proofs.Common.{Ok, rules}
 use Rattle.evening_stream.specs.Input.{state_of}
 use Rattle.evening_stream.proofs.Cutting.{whole_output, finished_none, finished_some}
 use Rattle.evening_stream.proofs.Stream.end.Goals as goal
 
-pub returns-then-self-eq0 : goal.returns-then-self-eq0
-returns-then-self-eq0 c =
+pub returns-then-is_empty-clause-whole : goal.returns-then-is_empty-clause-whole
+returns-then-is_empty-clause-whole c =
     let s = state_of c.args.self.now c.args.desk.now in
-    let done = finished_none s (vec_items c.args.out.now) (ap (λ n. take n c.args.self.now.bytes) c.if-self-eq0.true) in
-    record { value = done; whole = λ _. whole_output s (vec_items c.args.out.now) _ done.1 }
+    whole_output s c.args.out.now.items _ (Ok tt) s (finished_none s _ (search rules))
 
-pub returns-in-Ok : goal.returns-in-Ok
-returns-in-Ok c =
+pub returns : goal.returns
+returns c =
     let s = state_of c.args.self.now c.args.desk.now in
-    let long : length c.args.self.now.bytes ≡ 401 = search rules in
-    let some : 0 < length (take c.args.self.now.len c.args.self.now.bytes) = simp length-take (omega arith) in
-    let few : length (take c.args.self.now.len c.args.self.now.bytes) ≤ 401 = simp length-take (omega (arith, c.args.self.now.few)) in
-    let done = finished_some s (vec_items c.args.out.now) _ _ some few c.in-Ok.ensures in
-    record { value = done; whole = λ _. whole_output s (vec_items c.args.out.now) _ done.1 }
+    let done = finished_some s c.args.out.now.items c.end_line.result c.map_err.result _ c.end_line.new.out.items (search rules) c.end_line.ensures (search rules) in
+    record { value = done; whole = whole_output s c.args.out.now.items _ c.map_err.result _ done }

@@ -1,25 +1,22 @@
-use Rattle.std.proofs.Common.{◌++◌, take, vec_items, sym, ap, ◌∙◌, arith}
+use Rattle.std.proofs.Common.{ap, sym, ◌++◌, ◌∙◌, arith, refl, rules}
+use Rattle.std.proofs.lemmas.List.{nil_from_length}
 use Rattle.evening_stream.specs.Input.{state_of, clipped}
 use Rattle.evening_stream.proofs.Clipping.{line_ended, clipped-clipped}
 use Rattle.evening_stream.proofs.Stream.end_line.Goals as goal
-use Rattle.evening_stream.proofs.Stream.end_line.Goals.{then-from-eq0+in_ok-work, else-from-eq0+in_default}
-
-pub returns-in-Err : goal.returns-in-Err
-returns-in-Err c =
-    let unchanged = c.in-Err.ensures.value in
-    (λ i. record { desk = unchanged.0 i; lines = c.keep.ensures.lines i; kept = c.keep.ensures.front i }, unchanged.1)
+use Rattle.evening_stream.proofs.Stream.end_line.Goals.{then-from-eq0, else-from-eq0}
 
 pub returns : goal.returns
 returns c =
     let s = state_of c.args.self.now c.args.desk.now in
-    let whole = take c.args.self.now.len c.args.self.now.bytes ++ c.args.rest.now in
+    let rest = c.args.rest.now in
     elim c.if-from-eq0.branch [
-      | then-from-eq0+in_ok-work w ↦
+      | then-from-eq0 w ↦
           rw (w.desk-is, w.out-is)
-          (line_ended s c.args.rest.now whole _ _ (vec_items c.args.out.now) _ c.saturating_add-number.ensures
-          (ap (λ n. clipped (take n c.args.self.now.bytes ++ c.args.rest.now)) (sym w.if-from-eq0.true)) w.in_ok-work.ensures.value)
-      | else-from-eq0+in_default w ↦
+          (line_ended s s.desk _ rest rest _ w.work-worked.result c.args.out.now.items _ _ refl c.saturating_add-number.ensures
+          (ap (λ k. clipped (k ++ rest)) (sym (nil_from_length s.kept (omega arith)))) (search rules) w.work-worked.ensures.value c.clear.ensures)
+      | else-from-eq0 w ↦
+          let kept = w.keep.ensures.kept c.args.desk.now in
           rw (w.desk-is, w.out-is)
-          (line_ended s _ whole _ _ (vec_items c.args.out.now) _ c.saturating_add-number.ensures
-          (ap (λ n. clipped (take n w.keep.new.self.bytes)) (omega arith) ∙ ap clipped w.keep.ensures.kept ∙ clipped-clipped whole) w.in_default.ensures.value)
+          (line_ended s _ _ _ rest _ w.work-worked-else-from-eq0.result c.args.out.now.items _ _ refl c.saturating_add-number.ensures
+          (ap clipped (w.as_slice.ensures.value ∙ ap (λ t. t.kept) kept) ∙ clipped-clipped (s.kept ++ rest)) (search rules) w.work-worked-else-from-eq0.ensures.value c.clear.ensures)
     ]

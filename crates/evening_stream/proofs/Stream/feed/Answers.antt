@@ -1,27 +1,26 @@
-use Rattle.std.proofs.Common.{◌≡◌, ◌-◌, ◌≤◌, length, take, drop, vec_items, sym, refl, ap, ◌∙◌, append-nil, arith}
-use Rattle.std.proofs.lemmas.List.{length-take, take_rest, length-drop}
-use Rattle.evening_stream.specs.Input.{state_of}
-use Rattle.evening_stream.proofs.Feeding.{next_line, rest_kept}
+use Rattle.std.proofs.Common.{◌≡◌, ◌++◌, eqb, rules}
+use Rattle.std.proofs.lemmas.List.Sorted.{answers_always}
+use Rattle.evening_stream.specs.Input.{state_of, fed, says}
+use Rattle.evening_stream.proofs.Feeding.{fed_piece, piece_ended, piece_kept}
 use Rattle.evening_stream.proofs.Stream.feed.Goals as goal
+use Rattle.evening_stream.proofs.Stream.feed.Goals.{then-ends_with+in_ok-map_err, else-ends_with}
 
-pub loop-n-init : goal.loop-n-init
-loop-n-init c = (omega arith, refl, sym (append-nil (vec_items c.args.out.now)))
-
-pub loop-n-preserved : goal.loop-n-preserved
-loop-n-preserved c =
-    let block = c.args.block.now in
-    let first = c.in-Some.ensures in
-    let inv = c.loop-n.invariant in
-    let few : length (take c.loop-n.self.len c.loop-n.self.bytes) ≤ 401 = simp length-take (omega (arith, c.loop-n.self.few)) in
-    let left : length (take (length block - c.loop-n.taken) (drop c.loop-n.taken block)) ≡ length block - c.loop-n.taken = ap length (take_rest block c.loop-n.taken) ∙ length-drop c.loop-n.taken block in
-    let grown = next_line (state_of c.args.self.now c.args.desk.now) block (vec_items c.args.out.now) c.loop-n.taken (state_of c.loop-n.self c.loop-n.desk) (vec_items c.loop-n.out) inv.1 inv.2 few c.in-Some.n
-    (state_of c.end_line.new.self c.end_line.new.desk) (vec_items c.end_line.new.out) c.end_line.result first (sym c.if-is_err.ensures.value) c.end_line.ensures in
-    (omega (arith, first.1), grown.0, grown.1)
-
-pub returns : goal.returns
-returns c =
-    let block = c.args.block.now in
-    let inv = c.loop-n.invariant in
-    let few : length (take c.loop-n.self.len c.loop-n.self.bytes) ≤ 401 = simp length-take (omega (arith, c.loop-n.self.few)) in
-    rest_kept (state_of c.args.self.now c.args.desk.now) block (vec_items c.args.out.now) c.loop-n.taken (state_of c.loop-n.self c.loop-n.desk) (vec_items c.loop-n.out) inv.1 inv.2 few
-    (state_of c.keep.new.self c.loop-n.desk) c.in_default.ensures (λ i. record { desk = (state_of c.loop-n.self c.loop-n.desk).desk; lines = c.keep.ensures.lines i; kept = c.keep.ensures.kept i })
+pub loop-line-preserved : goal.loop-line-preserved
+loop-line-preserved c =
+    let s = state_of c.loop-line.self c.loop-line.desk in
+    let out = c.loop-line.out.items in
+    let line = c.in-Some.line.now in
+    let step = c.in-Some.ensures.steps in
+    let first = (step.1.2 (λ y. eqb y 10) (answers_always _ _ _ (λ f a r f' k. search rules))).1 in
+    let on : (state_of c.if-ends_with.self c.if-ends_with.desk ≡ fed s line) × (c.if-ends_with.out.items ≡ out ++ says s line) =
+    elim c.if-ends_with.branch [
+      | then-ends_with+in_ok-map_err w ↦
+          rw (w.self-is, w.desk-is, w.out-is) (piece_ended s out _ line _ _ step.0 step.1.1 first _ c.ends_with.ensures.value w.if-ends_with.true w.end_line.result _ _ (search rules) w.end_line.ensures)
+      | else-ends_with w ↦
+          rw (w.self-is, w.desk-is, w.out-is) (piece_kept s out _ line _ _ step.0 step.1.1 first _ c.ends_with.ensures.value w.if-ends_with.false step.2 _ (w.keep.ensures.kept c.loop-line.desk))
+    ] in
+    record {
+      ready = search rules;
+      ends = search rules;
+      so_far = fed_piece _ _ _ _ _ s out c.loop-line.invariant.so_far line _ _ _ step.0 on.0 on.1;
+    }

@@ -1,26 +1,12 @@
-use Rattle.std.proofs.Common.{◌≡◌, ◌+◌, ◌-◌, ◌≤◌, min, ◌++◌, length, take, sym, ap, ◌∙◌, arith, rules}
-use Rattle.std.proofs.lemmas.List.{length-take-le}
-use Rattle.std.proofs.lemmas.Slice.{take-put_mid, take-put_mid_below}
+use Rattle.std.proofs.Common.{◌≡◌, ◌++◌, take, ap, arith, rules}
+use Rattle.std.specs.Result.{IsOk}
+use Rattle.std.proofs.lemmas.List.{length-take}
+use Rattle.evening_stream.specs.Input.{state_of, goes_on}
 use Rattle.evening_stream.proofs.Feeding.{kept_more}
 use Rattle.evening_stream.proofs.Stream.keep.Goals as goal
 
-pub returns : goal.returns
-returns c =
-    let len = c.args.self.now.len in
-    let bytes = c.args.self.now.bytes in
-    let more = c.args.more.now in
-    let long : length bytes ≡ 401 = search rules in
-    let within : len ≤ 401 = c.args.self.now.few in
-    let front : length (take len bytes) ≡ len = length-take-le len bytes (omega arith) in
-    let n_is : c.min-n.result ≡ min (length more) (401 - length (take len bytes)) = c.min-n.ensures ∙ ap (λ k. min (length more) (401 - k)) (sym front) in
-    let copied = c.copy_from_slice.ensures.after in
-    let n-long : length (take (c.min-n.result - 0) more) ≡ c.min-n.result = length-take-le _ more (omega (arith, c.min-n.ensures)) ∙ omega arith in
-    record {
-      kept =
-          take-put_mid len _ bytes c.copy_from_slice.new.self (len + c.min-n.result) (ap (λ k. len + k) (sym (ap length copied ∙ n-long))) (omega arith)
-          ∙ ap (λ t. take len bytes ++ t) copied
-          ∙ ap (λ k. take len bytes ++ take k more) (omega (arith, n_is))
-          ∙ kept_more (take len bytes) more (omega arith);
-      front = take-put_mid_below len _ bytes c.copy_from_slice.new.self len (omega arith) (omega arith);
-      lines = search rules;
-    }
+pub returns-clause-kept : goal.returns-clause-kept
+returns-clause-kept c d =
+    let fits : IsOk c.try_extend_from_slice.result = c.try_extend_from_slice.ensures.variant.1 (simp length-take (omega arith)) in
+    let e : c.try_extend_from_slice.new.self.items ≡ c.args.self.now.kept.items ++ take c.min-n.result c.args.more.now = search rules in
+    ap (goes_on (state_of c.args.self.now d)) (kept_more _ _ _ _ c.min-n.result c.remaining_capacity.ensures c.min-n.ensures e)

@@ -1,26 +1,24 @@
-use Rattle.std.proofs.Common.{◌≡◌, length, take, sym, ap, ◌∙◌, subst, arith, rules}
-use borrow.Rule.Slice.Mut.{set_vals}
-use Rattle.std.proofs.lemmas.List.{length-take, length-take-le}
-use Rattle.ordered.specs.Files.{in_use, Ascends, standing}
-use Rattle.ordered.proofs.Filing.{take_min, Ascends-kept_by}
+use Rattle.std.proofs.Common.{◌≡◌, ◌≤◌, ◌++◌, length, drop, sym, ap, ◌∙◌, subst, rules}
+use Rattle.std.proofs.lemmas.List.{length-take-le, take-append-le, take-append-drop}
+use Rattle.ordered.specs.Files.{in_use, Ascends}
+use Rattle.ordered.proofs.Filing.{Ascends-kept_by, same_file}
 use Rattle.ordered.proofs.file.OrderedFile.compact.Goals as goal
 
 pub returns : goal.returns
 returns g c =
     let file = c.args.self.now in
-    let memory = file.memory.now in
     let swept = c.sweep-self.ensures in
     let r = c.sweep-self.result in
-    let clipped : take c.min-n.result memory ≡ in_use file = ap (λ k. take k memory) (omega (arith, c.min-n.ensures)) ∙ take_min file.count memory in
-    let left = swept.front ∙ ap (standing g.T.Void.void) clipped in
-    let long : length c.sweep-self.new.memory ≡ length memory = search rules in
+    let records = c.sweep-self.new.records in
+    let rest = drop file.count file.memory.now in
+    let many : length (in_use file) ≡ file.count = length-take-le file.count file.memory.now file.sized in
+    let within : r ≤ length records = search rules in
+    let left = take-append-le r records rest within ∙ swept.front in
     record {
       items = left;
-      ascends = λ up. (omega (arith, swept.bound, c.min-n.ensures), subst (Ascends g.T.Rank.before) (sym left) (Ascends-kept_by g.met.T.Rank.lawful _ (in_use file) up));
-      same = λ s all.
-          let whole : r ≡ c.min-n.result =
-          sym (length-take-le r c.sweep-self.new.memory (omega (arith, swept.bound, c.min-n.ensures))) ∙ ap length (left ∙ all) ∙ length-take file.count memory ∙ omega (arith, c.min-n.ensures) in
-          let count-is : r ≡ file.count = omega (arith, c.min-n.ensures) in
-          ap (λ m. record { memory = set_vals m file.memory; count = r }) (swept.same whole) ∙ ap (λ n. record { memory = file.memory; count = n }) count-is;
-      memory = long;
+      ascends = λ up. subst (Ascends g.T.Rank.before) (sym left) (Ascends-kept_by g.met.T.Rank.lawful _ (in_use file) up);
+      same = λ all.
+          let whole : r ≡ length (in_use file) = sym (length-take-le r records within) ∙ ap length (swept.front ∙ all) in
+          same_file file _ _ _ (ap (λ l. l ++ rest) (swept.same whole) ∙ take-append-drop file.count file.memory.now) (whole ∙ many);
+      memory = search rules;
     }

@@ -1,32 +1,20 @@
-use Rattle.std.proofs.Common.{Ok, Err, subst}
-use Rattle.ordered.proofs.Places.{Found, found, located_same, located_other, located_none}
+use Rattle.std.proofs.Common.{length, subst, rules}
+use Rattle.std.specs.List.Sorted.{IsSearchInRange, IsBinarySearchResult}
+use Rattle.std.proofs.lemmas.Fn.{always_returns_same}
+use Rattle.ordered.specs.Files.{in_use}
+use Rattle.ordered.proofs.Places.{against, against_ranked, searched, told_by_place}
 use Rattle.ordered.proofs.file.OrderedFile.find.Goals as goal
 
-pub returns-then-at-records : goal.returns-then-at-records
-returns-then-at-records g c =
-    let xs = c.used-records.result.now in
+answer : goal.returns-clause-value
+answer g c up =
     let key = c.args.key.now in
-    let at = c.lower_bound-at.result in
-    let told = subst (Found g.T.Rank.before g.T.Rank.fields key (Err at)) c.used-records.ensures.value
-    (found g.met.T.Rank.lawful key (Err at) xs (λ up. located_none g.met.T.Rank.lawful key xs at (c.lower_bound-at.ensures.value up) c.if-at-records.true) c.lower_bound-at.ensures.bound) in
-    record { value = told.value; cases = told.cases; bound = told.bound }
+    let found = c.binary_search_by.ensures in
+    let by = found.position (against g.T.Rank.before key) (always_returns_same _ _ _ (λ a r f2 call. (against_ranked g.met.T.Rank.lawful key a.0.now r (search rules), search rules))) in
+    let inside = subst (λ xs. IsSearchInRange c.binary_search_by.result (length xs)) c.used.ensures.value found.bound in
+    searched g.met.T.Rank.lawful key (in_use c.args.self.now) c.binary_search_by.result up inside (subst (λ xs. IsBinarySearchResult (against g.T.Rank.before key) xs c.binary_search_by.result) c.used.ensures.value by)
 
-pub returns-in-Equal : goal.returns-in-Equal
-returns-in-Equal g c =
-    let xs = c.used-records.result.now in
-    let key = c.args.key.now in
-    let at = c.lower_bound-at.result in
-    let told = subst (Found g.T.Rank.before g.T.Rank.fields key (Ok at)) c.used-records.ensures.value
-    (found g.met.T.Rank.lawful key (Ok at) xs (λ up. located_same g.met.T.Rank.lawful key xs at (c.lower_bound-at.ensures.value up) c.index-records-at.result c.if-at-records.false c.index-records-at.is c.in-Equal.ensures)
-    c.if-at-records.false) in
-    record { value = told.value; cases = told.cases; bound = told.bound }
+pub returns-clause-value : goal.returns-clause-value
+returns-clause-value = answer
 
-pub returns-in_default : goal.returns-in_default
-returns-in_default g c =
-    let xs = c.used-records.result.now in
-    let key = c.args.key.now in
-    let at = c.lower_bound-at.result in
-    let told = subst (Found g.T.Rank.before g.T.Rank.fields key (Err at)) c.used-records.ensures.value
-    (found g.met.T.Rank.lawful key (Err at) xs (λ up. located_other g.met.T.Rank.lawful key xs at (c.lower_bound-at.ensures.value up) c.index-records-at.result c.rank.result c.if-at-records.false c.index-records-at.is c.rank.ensures c.in_default.not-Equal)
-    c.lower_bound-at.ensures.bound) in
-    record { value = told.value; cases = told.cases; bound = told.bound }
+pub returns-clause-cases : goal.returns-clause-cases
+returns-clause-cases g c up = told_by_place g.met.T.Rank.lawful c.args.key.now (in_use c.args.self.now) up c.binary_search_by.result (answer g c up)

@@ -1,6 +1,0 @@
-use Rattle.std.proofs.Common.{◌≡◌, not}
-use Rattle.std.proofs.lemmas.List.Filters.{FiltersInPlace}
-use Rattle.ordered.proofs.file.sweep.Given as goal
-
-abbrev pub invariant-loop-i : goal.invariant-loop-i
-invariant-loop-i g l = FiltersInPlace (λ x. not (g.T.Void.void x)) l.initial.memory l.memory l.to l.i × (l.to ≡ l.i → l.memory ≡ l.initial.memory)
