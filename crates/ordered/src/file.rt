@@ -8,7 +8,7 @@ ghost use Rattle.std.specs.Prelude.{◌≤◌, length};
 pub struct OrderedFile<'a, T> {
     pub(crate) memory: &'a mut [T],
     pub(crate) count: usize,
-    ghost sized: { count ≤ length memory.now },
+    pub ghost sized: { count ≤ length memory.now },
 }
 
 // Why a record is not filed.

@@ -91,9 +91,10 @@ impl fmt::Display for LineFault {
     ghost output = { λ x. Some (fault_text x) };
 
     fn fmt<W: fmt::Write>(&self, f: &mut fmt::Formatter<W>) -> fmt::Result {
-        match self {
-            LineFault::Reader(e) => write!(f, "reader {}", e.number()),
-            LineFault::Directory(e) => write!(f, "directory {}", e.number()),
-        }
+        let (part, number) = match self {
+            LineFault::Reader(e) => ("reader", e.number()),
+            LineFault::Directory(e) => ("directory", e.number()),
+        };
+        write!(f, "{part} {number}")
     }
 }
